@@ -1,0 +1,18 @@
+//! Squares, pieces and boards of Arimaa.
+#![tactic(auto)]
+
+mod board;
+mod fault;
+mod piece;
+mod position;
+mod square;
+#[cfg(test)]
+mod tests;
+mod text;
+
+pub use board::Board;
+pub use fault::BoardFault;
+pub use piece::{Color, Kind, Piece};
+pub use position::{Position, Step};
+pub use square::{Dir, Square};
+pub use text::{board_text, read_board};
