@@ -9,6 +9,7 @@ mod square;
 #[cfg(test)]
 mod tests;
 mod text;
+mod turn;
 
 pub use board::Board;
 pub use fault::BoardFault;
@@ -16,3 +17,4 @@ pub use piece::{Color, Kind, Piece};
 pub use position::{Position, Step};
 pub use square::{Dir, Square};
 pub use text::{board_text, read_board};
+pub use turn::{Noted, NotedStep, Turn};
