@@ -6,8 +6,6 @@ mod fault;
 mod piece;
 mod position;
 mod square;
-#[cfg(test)]
-mod tests;
 mod text;
 mod turn;
 
