@@ -11,14 +11,14 @@ use arimaa_board::{Board, Dir, Piece, Square};
 use std::alloc::{AllocError, Global};
 
 // Whether two positions are the same.
-fn same_position(p: &Position, q: &Position) -> bool
+pub fn same_position(p: &Position, q: &Position) -> bool
     ensures { result ≡ same_position p.now q.now }
 {
     p.board == q.board && p.side == q.side
 }
 
 // Whether a position stands in a list.
-pub(crate) fn stands_in(list: &[Position], p: &Position) -> bool
+pub fn stands_in(list: &[Position], p: &Position) -> bool
     ensures { result ≡ stands_in list.now p.now }
 {
     list.iter().any(|q| same_position(p, q))
@@ -35,7 +35,7 @@ fn push_new(out: &mut Vec<Position>, p: &Position) -> Result<(), AllocError>
 }
 
 // What steps reach, where they are a turn.
-fn turn_result(p: &Position, steps: &[Step]) -> Option<Position>
+pub fn turn_result(p: &Position, steps: &[Step]) -> Option<Position>
     ensures { result ≡ result_of p.now steps.now }
 {
     if is_turn(&p.board, p.side, steps) {

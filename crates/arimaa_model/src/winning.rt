@@ -12,7 +12,7 @@ use arimaa_board::Color;
 use std::alloc::{AllocError, Global};
 
 // The results that are not barred.
-fn next(alloc: Global, p: &Position, barred: &[Position]) -> Result<Vec<Position>, AllocError>
+pub fn next(alloc: Global, p: &Position, barred: &[Position]) -> Result<Vec<Position>, AllocError>
     ensures { IfOk result (λ v. v.items ≡ next barred.now p.now) }
 {
     let results = plain_results(alloc, p)?;
