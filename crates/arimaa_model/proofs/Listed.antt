@@ -30,6 +30,10 @@ unfolding settle
 length-after_to b from None size = size
 length-after_to b from (Some to) size = length-board_of _
 
+pub length-after : (b : Board) (s : Step) → length b ≡ 64 → length (after b s) ≡ 64
+unfolding after
+length-after b s size = length-after_to b s.from (target s) size
+
 pub length-after_all : (b : Board) (steps : List Step) → length b ≡ 64 → length (after_all b steps) ≡ 64
 unfolding after
 length-after_all b [] size = size
@@ -42,6 +46,14 @@ In-range m (suc n) k low high =
     (λ (e : m < k). inr (In-range (m + 1) n k (omega arith) (omega arith)))
     (λ (e : k ≤ m). let same : k ≡ m = omega arith in inl same)
     (cases_lt m k)
+
+pub range-In : (m n k : ℕ) → In k (range_with_len m n) → (m ≤ k) × (k < m + n)
+range-In m zero k i = absurd i
+range-In m (suc n) k i =
+    ⊎_elim
+    (λ (e : k ≡ m). (omega arith, omega arith))
+    (λ j. let deep = range-In (m + 1) n k j in let low = deep.0 in let high = deep.1 in (omega arith, omega arith))
+    i
 
 In-directions : (d : Dir) → In d directions
 In-directions North = inl refl

@@ -1,12 +1,12 @@
 -- The pieces that the steps of a turn remove, and the marks that name them.
-use Rattle.std.specs.Prelude.{ℕ, ◌==◌, Bool, true, false, ◌&&◌, List, [], ◌∷◌, Option, None, Some}
+use Rattle.std.specs.Prelude.{◌≡◌, ℕ, ◌==◌, Bool, true, false, ◌&&◌, List, [], ◌∷◌, Option, None, Some}
 use Rattle.std.specs.List.{find}
 use Rattle.arimaa_board.specs.declared.piece.Piece.{Piece}
 use Rattle.arimaa_board.specs.declared.board.Board.{Board}
 use Rattle.arimaa_board.specs.declared.position.Step.{Step}
 use Rattle.arimaa_board.specs.Piece.{code_of}
 use Rattle.arimaa_board.specs.Square.{traps}
-use Rattle.arimaa_board.specs.Board.{at, moved}
+use Rattle.arimaa_board.specs.Board.{at, put, moved}
 use Rattle.arimaa_board.specs.Fit.{is_unsupported}
 use Rattle.arimaa_model.specs.Moves.{target, after}
 
@@ -43,3 +43,8 @@ unfoldable pub marks_right : Board → List Step → List (Option (Piece × ℕ)
 marks_right b [] [] = true
 marks_right b (s ∷ rest) (m ∷ marks) = same_mark m (removed_by b s) && marks_right (after b s) rest marks
 marks_right b _ _ = false
+
+-- the second board is the first without this piece
+abbrev pub IsWithout : Board → Board → Option (Piece × ℕ) → Type 0
+IsWithout m c None = c ≡ m
+IsWithout m c (Some l) = (at m l.1 ≡ Some l.0) × (c ≡ put m l.1 None)

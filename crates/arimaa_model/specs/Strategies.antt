@@ -93,3 +93,15 @@ pub record IsOpen (a : Color) (barred : List Position) (n : ℕ) (p : Position) 
   pub own : IsTrue (same_color p.side a)
   pub undecided : decided p ≡ None
   pub won : IsTrue (wins a barred n p)
+
+-- an entry that is right: the attacker is to move, and the turn leads to a next position of the rank one lower
+pub record IsEntry (a : Color) (barred : List Position) (e : Planned) : Type 0 where
+  pub own : IsTrue (same_color e.position.side a)
+  pub undecided : decided e.position ≡ None
+  pub ranked : IsRank a barred e.position e.rank
+  pub result : Position
+  pub turn : result_at e ≡ Some result
+  pub allowed : IsTrue (stands_in (next barred e.position) result)
+  pub lower : ℕ
+  pub exact : e.rank ≡ suc lower
+  pub result_ranked : IsRank a barred result lower
