@@ -1,6 +1,7 @@
 -- Results are distinct, reached by turns, and all that turns reach.
 use Rattle.std.proofs.Common.{◌≡◌, ℕ, List, [], ◌∷◌, ◌++◌, length, Bool, true, false, cond, Option, None, Some, refl, sym, ◌∙◌, ap, subst, ◌⊎◌, inl, inr, ⊎_elim}
-use Rattle.std.specs.List.{filter_map}
+use Rattle.std.specs.Prelude.{not}
+use Rattle.std.specs.List.{filter_map, list_any}
 use Rattle.std.proofs.lemmas.Bool.{both_ways}
 use Rattle.arimaa_board.specs.declared.piece.Color.{Color}
 use Rattle.arimaa_board.specs.declared.board.Board.{Board}
@@ -8,12 +9,16 @@ use Rattle.arimaa_board.specs.declared.position.Position.{Position}
 use Rattle.arimaa_board.specs.declared.position.Step.{Step}
 use Rattle.arimaa_board.specs.Piece.{other_color}
 use Rattle.arimaa_model.specs.Turns.{after_all, is_turn}
-use Rattle.arimaa_model.specs.Results.{stands_in, with_new, first_occurrences, results, result_of, position_of, turn_lists}
+use Rattle.arimaa_model.specs.Results.{stands_in, with_new, first_occurrences, results, result_of, position_of, turn_lists, next}
+use Rattle.arimaa_model.specs.Wins.{is_nil}
+use Rattle.arimaa_model.specs.Plain.{reached}
 use Rattle.arimaa_model.specs.Members.{Stands, AreDistinct}
 use Rattle.arimaa_model.specs.Relations.{IsTurn}
-use Rattle.arimaa_model.proofs.Members.{In, In-append}
-use Rattle.arimaa_model.proofs.Positions.{stands-In, In-stands, not-stands, results-turn, result-side}
+use Rattle.arimaa_model.proofs.Members.{In, In-append, any-In, filter-In}
+use Rattle.arimaa_model.proofs.Positions.{stands-In, In-stands, not-stands, first-old, results-turn, result-side}
 use Rattle.arimaa_model.proofs.Listed.{result-turn, turn-results}
+use Rattle.arimaa_model.proofs.Reaching.{results-is}
+use Rattle.arimaa_model.proofs.Ranking.{some-length}
 use Rattle.arimaa_model.proofs.RelatedTurns.{turn-Decides}
 
 distinct-push : (qs : List Position) (p : Position) → AreDistinct qs → stands_in qs p ≡ false → AreDistinct (qs ++ p ∷ [])
@@ -69,3 +74,15 @@ turns-reach p steps c size turn =
     let passes = turn-is p.board p.side steps c turn in
     let is : result_of p steps ≡ Some (position_of c p) = rw (passes, turn.leads) refl in
     In-stands (results p) (position_of c p) (turn-results p (position_of c p) steps size is)
+
+-- a result of one step that is not barred is a next position
+pub near-next : (barred : List Position) (p : Position) → list_any (λ q. not (stands_in barred q)) (first_occurrences [] (reached p [] 1)) ≡ true → is_nil (next barred p) ≡ false
+near-next barred p some =
+    let l1 = first_occurrences [] (reached p [] 1) in
+    let l2 = first_occurrences l1 (reached p [] 2) in
+    let l3 = first_occurrences l2 (reached p [] 3) in
+    let found = any-In (λ q. not (stands_in barred q)) l1 some in
+    let q = found.0 in
+    let deep = first-old q l3 (reached p [] 4) (first-old q l2 (reached p [] 3) (first-old q l1 (reached p [] 2) found.1)) in
+    let there : In q (results p) = subst (λ (l : List Position). In q l) (sym (results-is p)) deep in
+    some-length q (next barred p) (filter-In (λ x. not (stands_in barred x)) q (results p) there found.2)

@@ -8,7 +8,7 @@ use Rattle.arimaa_board.specs.declared.position.Position.{Position}
 use Rattle.arimaa_model.specs.declared.ending.Ending.{Ending}
 use Rattle.arimaa_model.specs.Decided.{decided}
 use Rattle.arimaa_model.specs.Results.{next}
-use Rattle.arimaa_model.specs.Wins.{wins, wins_among}
+use Rattle.arimaa_model.specs.Wins.{is_nil, wins, wins_among}
 use Rattle.arimaa_model.proofs.WinsLaws.{wins-decided, wins-stuck, wins-end, wins-deeper}
 use Rattle.arimaa_model.specs.Ranks.{IsRank, least_passing, rank_within, has_rank, above}
 use Rattle.arimaa_model.proofs.Members.{In, In-any, In-all, all-In, any-In}
@@ -55,9 +55,9 @@ above-le f m (x ∷ qs) each =
     let rest = above-le f m qs (λ q i. each q (inr i)) in
     omega arith
 
-pub some-length : (q : Position) (qs : List Position) → In q qs → 0 < length qs
+pub some-length : (q : Position) (qs : List Position) → In q qs → is_nil qs ≡ false
 some-length q [] i = absurd i
-some-length q (x ∷ qs) i = omega arith
+some-length q (x ∷ qs) i = refl
 
 module _ (a : Color) (barred : List Position) where
   -- decided, with nobody to move, or with some next position

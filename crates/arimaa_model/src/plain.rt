@@ -89,7 +89,7 @@ fn longer(alloc: Global, steps: &[Step], step: &Step) -> Result<Vec<Step>, Alloc
 }
 
 // Adds what is reached by `left` more steps, the first occurrences only.
-fn extend(
+pub(crate) fn extend(
     alloc: Global,
     p: &Position,
     begun: &[Step],

@@ -29,11 +29,15 @@ pub fn has_cutting(board: &Board, side: Color, steps: &[Step]) -> bool
         return single(board, side, first);
     };
     let next = after(board, first);
-    let as_single = single(board, side, first);
-    let after_single = has_cutting(&next, side, rest);
-    let as_pair = push_or_pull(board, side, first, second);
-    let after_pair = has_cutting(&after(&next, second), side, others);
-    either(as_single, after_single, as_pair, after_pair)
+    if single(board, side, first) {
+        if has_cutting(&next, side, rest) {
+            return true;
+        }
+    }
+    if push_or_pull(board, side, first, second) {
+        return has_cutting(&after(&next, second), side, others);
+    }
+    false
 }
 
 // Whether two steps are a push or a pull.
@@ -41,12 +45,6 @@ fn push_or_pull(board: &Board, side: Color, first: &Step, second: &Step) -> bool
     ensures { result ≡ (is_push board.now side first.now second.now || is_pull board.now side first.now second.now) }
 {
     push(board, side, first, second) || pull(board, side, first, second)
-}
-
-fn either(a: bool, b: bool, c: bool, d: bool) -> bool
-    ensures { result ≡ (a && b || c && d) }
-{
-    a && b || c && d
 }
 
 /// Whether the steps are a turn.
@@ -71,11 +69,15 @@ pub fn has_open_cutting(board: &Board, side: Color, steps: &[Step]) -> bool
         return half_push(board, side, first);
     };
     let next = after(board, first);
-    let as_single = single(board, side, first);
-    let after_single = has_open_cutting(&next, side, rest);
-    let as_pair = push_or_pull(board, side, first, second);
-    let after_pair = has_open_cutting(&after(&next, second), side, others);
-    either(as_single, after_single, as_pair, after_pair)
+    if single(board, side, first) {
+        if has_open_cutting(&next, side, rest) {
+            return true;
+        }
+    }
+    if push_or_pull(board, side, first, second) {
+        return has_open_cutting(&after(&next, second), side, others);
+    }
+    false
 }
 
 /// Whether the steps may begin a turn.

@@ -1,12 +1,12 @@
 //! Who wins by force.
-ghost use Rattle.std.specs.Prelude.{◌≡◌, ℕ, IfOk};
+ghost use Rattle.std.specs.Prelude.{◌≡◌, ℕ, [], not, IfOk};
 ghost use Rattle.std.specs.List.{list_any, filter};
 ghost use Rattle.arimaa_model.specs.Results.{next, results, stands_in};
 ghost use Rattle.arimaa_model.specs.Decided.{decided};
-ghost use Rattle.arimaa_model.specs.Wins.{wins, wins_among, settled_for};
+ghost use Rattle.arimaa_model.specs.Wins.{is_nil, wins, wins_among, settled_for};
 
 use crate::deciding::decided;
-use crate::plain::{plain_results, stands_in};
+use crate::plain::{extend, plain_results, stands_in};
 use arimaa_board::Position;
 use arimaa_board::Color;
 use std::alloc::{AllocError, Global};
@@ -23,6 +23,26 @@ pub fn next(alloc: Global, p: &Position, barred: &[Position]) -> Result<Vec<Posi
         }
     }
     Ok(out)
+}
+
+// Whether a list has a position that is not barred.
+fn has_free(list: &[Position], barred: &[Position]) -> bool
+    ensures { result ≡ list_any (λ q. not (stands_in barred.now q)) list.now }
+{
+    list.iter().any(|q| !stands_in(barred, q))
+}
+
+// Whether no result is left that is not barred. Most often a turn of one step shows that one is.
+fn is_stuck(alloc: Global, p: &Position, barred: &[Position]) -> Result<bool, AllocError>
+    ensures { IfOk result (λ r. r ≡ is_nil (next barred.now p.now)) }
+{
+    let mut near = Vec::new(alloc);
+    extend(alloc, p, &[], 1, &mut near)?;
+    if has_free(&near, barred) {
+        return Ok(false);
+    }
+    let list = next(alloc, p, barred)?;
+    Ok(list.is_empty())
 }
 
 // Whether the attacker wins some of the positions where it is to move, and else all.
@@ -59,19 +79,13 @@ pub fn plain_wins(
     if let Some(ending) = decided(p) {
         return Ok(ending.winner == attacker);
     }
-    let list = next(alloc, p, barred)?;
-    if list.is_empty() {
+    if is_stuck(alloc, p, barred)? {
         return Ok(p.side != attacker);
     }
     if depth == 0 {
         return Ok(false);
     }
-    wins_among(
-        alloc,
-        p.side == attacker,
-        &list,
-        depth - 1,
-        attacker,
-        barred,
-    )
+    let list = next(alloc, p, barred)?;
+    let own = p.side == attacker;
+    wins_among(alloc, own, &list, depth - 1, attacker, barred)
 }
