@@ -113,6 +113,13 @@ module _ (a : Color) (barred : List Position) where
   unfolding rank_within
   rank-from n k p small below last = sym (least-is (λ j. wins a barred j p) n k small below last)
 
+  -- the first depth at which it is won is the rank
+  pub first-is-rank : (r : ℕ) (p : Position) → ((j : ℕ) → j < r → wins a barred j p ≡ false) → wins a barred r p ≡ true → IsRank a barred p r
+  first-is-rank r p below won = record {
+    won = won;
+    least = λ k w. ⊎_elim (λ (less : k < r). absurd (both_ways _ (below k less) w)) (λ enough. enough) (cases_lt k r);
+  }
+
   pub one-rank : (p : Position) (r t : ℕ) → IsRank a barred p r → IsRank a barred p t → r ≡ t
   one-rank p r t h k = let u = h.least t k.won in let v = k.least r h.won in omega arith
 

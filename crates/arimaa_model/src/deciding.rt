@@ -1,6 +1,6 @@
 //! Positions that the rules have decided.
 ghost use Rattle.std.specs.Prelude.{◌≡◌, ℕ, ◌+◌, ◌==◌};
-ghost use Rattle.arimaa_model.specs.Decided.{decided, decided_for, is_home, goal_start, has_lost_all};
+ghost use Rattle.arimaa_model.specs.Decided.{decided, decided_for, is_home, goal_start, has_lost_all, won_by};
 
 use crate::moves::holds;
 use crate::ending::{Cause, Ending};
@@ -44,30 +44,25 @@ fn has_lost_all(board: &Board, color: Color) -> bool
     }) == 0
 }
 
+// A win.
+fn won_by(winner: Color, cause: Cause) -> Option<Ending>
+    ensures { result ≡ won_by winner cause }
+{
+    Some(Ending { winner, cause })
+}
+
 // The ending where the first side has just moved.
 fn decided_for(board: &Board, mover: Color, other: Color) -> Option<Ending>
     ensures { result ≡ decided_for board.now mover other }
 {
     if is_home(board, mover) {
-        Some(Ending {
-            winner: mover,
-            cause: Cause::Goal,
-        })
+        won_by(mover, Cause::Goal)
     } else if is_home(board, other) {
-        Some(Ending {
-            winner: other,
-            cause: Cause::Goal,
-        })
+        won_by(other, Cause::Goal)
     } else if has_lost_all(board, other) {
-        Some(Ending {
-            winner: mover,
-            cause: Cause::Elimination,
-        })
+        won_by(mover, Cause::Elimination)
     } else if has_lost_all(board, mover) {
-        Some(Ending {
-            winner: other,
-            cause: Cause::Elimination,
-        })
+        won_by(other, Cause::Elimination)
     } else {
         None
     }

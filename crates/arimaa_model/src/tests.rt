@@ -70,6 +70,10 @@ fn at(place: u8, fault: StepFault) -> Option<FirstFault> {
     Some(FirstFault::Step { place, fault })
 }
 
+fn copy_of(p: &Position) -> Position {
+    *p
+}
+
 fn wins(alloc: Global, p: &Position, depth: u8, barred: &[Position]) -> Result<bool, Fail> {
     Ok(plain_wins(alloc, p, depth, Color::Gold, barred)?)
 }
@@ -122,7 +126,8 @@ fn won_at_once(rt: HostRuntime) -> Result<(), Fail> {
     assert!(rt; wins(alloc, &stuck, 0, &[])?);
     let before = position(Color::Gold, &[b"Hb4", b"Rb5", b"ra4"])?;
     let after = position(Color::Silver, &[b"Hb4", b"Rb5", b"ra5"])?;
-    assert!(rt; wins(alloc, &after, 0, &[before, after])?);
+    let barred = [copy_of(&before), copy_of(&after)];
+    assert!(rt; wins(alloc, &after, 0, &barred)?);
     assert!(rt; !wins(alloc, &after, 0, &[])?);
     Ok(())
 }
@@ -179,7 +184,12 @@ fn rules_in_order(rt: HostRuntime) -> Result<(), Fail> {
     assert!(rt; fault(alloc, &[], &open, &[])? == Some(FirstFault::Turn(TurnFault::Empty)));
     let start = position(Color::Gold, &[b"Ed4", b"Ra1", b"ed7", b"rh8"])?;
     let last = position(Color::Silver, &[b"Ed4", b"Ra1", b"ed8", b"rh8"])?;
-    let history = [start, last, start, last];
+    let history = [
+        copy_of(&start),
+        copy_of(&last),
+        copy_of(&start),
+        copy_of(&last),
+    ];
     let repeat = Some(FirstFault::Repeat);
     assert!(rt; fault(alloc, &history, &last, &[b"ed8s"])? == repeat);
     assert!(rt; fault(alloc, &history[1..], &last, &[b"ed8s"])? == None);

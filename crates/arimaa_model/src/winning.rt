@@ -1,9 +1,10 @@
 //! Who wins by force.
-ghost use Rattle.std.specs.Prelude.{◌≡◌, ℕ, [], not, IfOk};
+ghost use Rattle.std.specs.Prelude.{◌≡◌, ℕ, [], not, false, IfOk, IfSome, IfNone};
 ghost use Rattle.std.specs.List.{list_any, filter};
 ghost use Rattle.arimaa_model.specs.Results.{next, results, stands_in};
 ghost use Rattle.arimaa_model.specs.Decided.{decided};
 ghost use Rattle.arimaa_model.specs.Wins.{is_nil, wins, wins_among, settled_for};
+ghost use Rattle.arimaa_model.specs.Ranks.{IsRank};
 
 use crate::deciding::decided;
 use crate::plain::{extend, plain_results, stands_in};
@@ -88,4 +89,28 @@ pub fn plain_wins(
     let list = next(alloc, p, barred)?;
     let own = p.side == attacker;
     wins_among(alloc, own, &list, depth - 1, attacker, barred)
+}
+
+/// The rank of the position: the least number of turns within which the attacker wins it.
+///
+/// None exactly where the attacker does not win it within `most` turns.
+pub fn plain_rank(
+    alloc: Global,
+    p: &Position,
+    most: u8,
+    attacker: Color,
+    barred: &[Position],
+) -> Result<Option<u8>, AllocError>
+    ensures rank { IfOk result (λ o. IfSome o (λ r. IsRank attacker barred.now p.now r)) }
+    ensures none { IfOk result (λ o. IfNone o (wins attacker barred.now most p.now ≡ false)) }
+{
+    for depth in 0..most {
+        if plain_wins(alloc, p, depth, attacker, barred)? {
+            return Ok(Some(depth));
+        }
+    }
+    if plain_wins(alloc, p, most, attacker, barred)? {
+        return Ok(Some(most));
+    }
+    Ok(None)
 }
