@@ -4,8 +4,7 @@ ghost use Rattle.arimaa_board.specs.Board.{same_color, holds};
 ghost use Rattle.arimaa_model.specs.Moves.{fits, is_single, is_half, is_free, can_push, has_pusher, goes_back, after, enters, is_push, is_pull};
 
 use crate::freezing::{beats, frozen};
-use arimaa_board::Step;
-use arimaa_board::{Board, Color, Dir, Kind, Piece, Square};
+use arimaa_board::{Board, Color, Dir, Kind, Piece, Square, Step};
 
 // Whether there is such a square, and nothing on it.
 pub fn is_free(board: &Board, square: Option<Square>) -> bool

@@ -5,9 +5,8 @@ ghost use Rattle.arimaa_board.specs.Board.{at};
 ghost use Rattle.arimaa_model.specs.Results.{same_position, stands_in, with_new, first_occurrences, results, result_of};
 ghost use Rattle.arimaa_model.specs.Plain.{steps_of, candidates, reached};
 
-use arimaa_board::{Position, Step};
 use crate::turns::{after_all, is_turn, may_grow};
-use arimaa_board::{Board, Dir, Piece, Square};
+use arimaa_board::{Board, Dir, Piece, Position, Square, Step};
 use std::alloc::{AllocError, Global};
 
 // Whether two positions are the same.

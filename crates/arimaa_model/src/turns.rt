@@ -4,8 +4,7 @@ ghost use Rattle.arimaa_model.specs.Turns.{after_all, has_cutting, has_open_cutt
 ghost use Rattle.arimaa_model.specs.Moves.{is_push, is_pull};
 
 use crate::moves::{after, half_push, pull, push, single};
-use arimaa_board::Step;
-use arimaa_board::{Board, Color};
+use arimaa_board::{Board, Color, Step};
 
 /// The board after all the steps.
 pub fn after_all(board: &Board, steps: &[Step]) -> Board

@@ -8,8 +8,7 @@ ghost use Rattle.arimaa_model.specs.Ranks.{IsRank};
 
 use crate::deciding::decided;
 use crate::plain::{extend, plain_results, stands_in};
-use arimaa_board::Position;
-use arimaa_board::Color;
+use arimaa_board::{Color, Position};
 use std::alloc::{AllocError, Global};
 
 // The results that are not barred.
