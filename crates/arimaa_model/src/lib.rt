@@ -1,0 +1,24 @@
+//! The rules of Arimaa as definitions, and small plain functions that compute them.
+#![tactic(auto)]
+
+mod deciding;
+mod fault;
+mod freezing;
+mod listing;
+mod moves;
+mod plain;
+mod ending;
+#[cfg(test)]
+mod tests;
+mod turns;
+mod winning;
+
+pub use deciding::decided;
+pub use fault::{ApplyFault, StepFault, TurnFault};
+pub use freezing::{beats, frozen};
+pub use listing::single_results;
+pub use moves::{after, can_push, can_step, enters, goes_back, half_push, holds, is_free, pull, push, single};
+pub use plain::plain_results;
+pub use ending::{Cause, Ending};
+pub use turns::{after_all, has_cutting, has_open_cutting, is_turn, may_grow};
+pub use winning::plain_wins;
