@@ -1,0 +1,4 @@
+pub mod State
+pub mod Next
+pub mod StateWords
+pub mod Removal
