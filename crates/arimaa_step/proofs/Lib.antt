@@ -6,3 +6,4 @@ pub mod RuleLaws
 pub mod Removals
 pub mod StateWordsLaws
 pub mod TurnLaws
+pub mod MarkLaws

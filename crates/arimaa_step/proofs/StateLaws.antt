@@ -14,7 +14,8 @@ use Rattle.arimaa_model.specs.Backward.{after_back, cuts_back, opens_back}
 use Rattle.arimaa_model.specs.Faults.{ends_push, ends_pull, rule_of, step_fault, unless}
 use Rattle.arimaa_model.proofs.Growing.{single_fits, half_fits, pair_fits}
 use Rattle.arimaa_step.specs.declared.state.TurnState.{TurnState}
-use Rattle.arimaa_step.specs.State.{left_if, open_of, pull_of, state_of, step_answer, removed_by}
+use Rattle.arimaa_step.specs.Marks.{removed_by}
+use Rattle.arimaa_step.specs.State.{left_if, open_of, pull_of, state_of, step_answer, trap_first}
 use Rattle.arimaa_step.specs.Next.{could_push, completes_push, completes_pull, cuts_next, next_state, next_fault, next_answer}
 use Rattle.arimaa_step.proofs.Pushers.{after_settled, same_pusher}
 
@@ -117,4 +118,4 @@ fault_law p back s = λ i.
 -- what one more step answers
 pub answer_law : (p : Position) (back : List Step) (s : Step) → next_answer (state_of p back) s ≡ step_answer p back s
 unfolding next_answer
-answer_law p back s = λ i. unless (fault_law p back s i) (record { state = state_law p back s i; removed = removed_by (after_back p.board back) s })
+answer_law p back s = λ i. unless (fault_law p back s i) (record { state = state_law p back s i; removed = trap_first (removed_by (after_back p.board back) s) })

@@ -2,6 +2,7 @@
 use Rattle.std.proofs.Common.{◌≡◌, ℕ, ◌+◌, ◌-◌, ◌*◌, ◌/◌, ◌%◌, ◌<◌, ◌≤◌, List, [], ◌∷◌, Bool, true, false, length, Option, None, Some, refl, ◌∙◌, ap, arith, ne_eqb}
 use Rattle.std.specs.Prelude.{◌==◌, ◌&&◌}
 use Rattle.std.proofs.lemmas.Bool.{and_parts}
+use Rattle.arimaa_board.specs.declared.piece.Piece.{Piece}
 use Rattle.arimaa_board.specs.declared.board.Board.{Board}
 use Rattle.arimaa_board.specs.Piece.{code_of, piece_of_code}
 use Rattle.arimaa_board.specs.Board.{at, holds, kept, settle, moved}
@@ -13,31 +14,30 @@ use Rattle.arimaa_board.specs.declared.position.Step.{Step}
 use Rattle.arimaa_model.specs.Moves.{target, fits, after, after_to, is_free, is_single, is_half}
 use Rattle.arimaa_model.specs.Backward.{after_back, cuts_back, opens_back}
 use Rattle.arimaa_model.proofs.Growing.{single_fits, half_fits}
-use Rattle.arimaa_step.specs.declared.state.Left.{Left}
 use Rattle.arimaa_step.specs.declared.state.TurnState.{TurnState}
 use Rattle.arimaa_step.specs.State.{left_if, open_of, pull_of, state_of}
 use Rattle.arimaa_step.specs.StateWords.{left_code, left_from, facts_of, bit_of, state_words, state_from}
 use Rattle.arimaa_step.proofs.Pushers.{held_piece, on_board}
 
 -- a square of the board, if there is one
-abbrev OnBoard : Option Left → Type 0
+abbrev OnBoard : Option (ℕ × Piece) → Type 0
 OnBoard None = Unit {0}
-OnBoard (Some l) = l.square < 64
+OnBoard (Some l) = l.0 < 64
 
-left_small : (o : Option Left) → OnBoard o → left_code o < 1024
+left_small : (o : Option (ℕ × Piece)) → OnBoard o → left_code o < 1024
 unfolding left_code
 left_small None h = omega arith
-left_small (Some l) h = omega (arith, code_small l.piece)
+left_small (Some l) h = omega (arith, code_small l.1)
 
-left_back : (o : Option Left) → OnBoard o → left_from (left_code o) ≡ o
+left_back : (o : Option (ℕ × Piece)) → OnBoard o → left_from (left_code o) ≡ o
 unfolding left_code left_from
 left_back None h = refl
 left_back (Some l) h =
-    let n : ℕ = 1 + l.square + 64 * code_of l.piece in
-    let more : (1 + l.square + 64 * code_of l.piece == 0) ≡ false = ne_eqb (1 + l.square + 64 * code_of l.piece) 0 (omega arith) in
-    let square : (1 + l.square + 64 * code_of l.piece - 1) % 64 ≡ l.square = omega arith in
-    let piece : (1 + l.square + 64 * code_of l.piece - 1) / 64 ≡ code_of l.piece = omega arith in
-    let known : piece_of_code (code_of l.piece) ≡ Some l.piece = piece_of_code-code_of_content (Some l.piece) in
+    let n : ℕ = 1 + l.0 + 64 * code_of l.1 in
+    let more : (1 + l.0 + 64 * code_of l.1 == 0) ≡ false = ne_eqb (1 + l.0 + 64 * code_of l.1) 0 (omega arith) in
+    let square : (1 + l.0 + 64 * code_of l.1 - 1) % 64 ≡ l.0 = omega arith in
+    let piece : (1 + l.0 + 64 * code_of l.1 - 1) / 64 ≡ code_of l.1 = omega arith in
+    let known : piece_of_code (code_of l.1) ≡ Some l.1 = piece_of_code-code_of_content (Some l.1) in
     rw (more, square, piece, known) refl
 
 bit_small : (b : Bool) → bit_of b ≤ 1

@@ -1,4 +1,7 @@
+pub mod Marks
 pub mod State
+pub mod Future
+pub mod Removal
+pub mod MarkRules
 pub mod Next
 pub mod StateWords
-pub mod Removal

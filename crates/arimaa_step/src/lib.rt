@@ -1,9 +1,12 @@
-//! The steps of a turn, one after another.
+//! The steps of a turn, one after another: pushes, pulls, traps and freezing.
 #![tactic(auto)]
 
 mod applying;
+mod marking;
 mod state;
 mod words;
 
 pub use applying::apply;
-pub use state::{Left, StepDone, TurnState};
+pub use arimaa_model::{ApplyFault, StepFault, TurnFault, frozen};
+pub use marking::{Marks, marks_fit, note};
+pub use state::{StepDone, TurnState};

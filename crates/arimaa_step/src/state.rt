@@ -5,21 +5,15 @@ ghost use Rattle.arimaa_board.specs.declared.position.Position.{Position};
 ghost use Rattle.arimaa_board.specs.declared.position.Step.{Step};
 ghost use Rattle.arimaa_model.specs.Moves.{is_single, is_half};
 ghost use Rattle.arimaa_model.specs.Faults.{rule_of, first_rule};
-ghost use Rattle.arimaa_step.specs.State.{state_of, step_answer, finish_answer, left_if, left_at, content_at, removed_to, removed_by};
+ghost use Rattle.arimaa_step.specs.State.{state_of, step_answer, finish_answer, left_if, trap_first};
 ghost use Rattle.arimaa_step.specs.Next.{could_push, completes_push, completes_pull, next_state, next_fault, next_answer, state_end};
 
 use arimaa_board::{Board, Color, Piece, Position, Square, Step};
+use crate::marking::removed;
 use arimaa_model::{
     StepFault, TurnFault, after, beats, can_push, can_step, enters, frozen, half_push, holds,
     is_free, single,
 };
-
-/// A square left by a step, and the piece that left it.
-#[derive(Clone, Copy, Debug, PartialEq, Eq)]
-pub struct Left {
-    pub square: Square,
-    pub piece: Piece,
-}
 
 /// What the steps of a turn so far have reached, and what may follow.
 #[derive(Clone, Copy, Debug, PartialEq, Eq)]
@@ -30,58 +24,36 @@ pub struct TurnState {
     // whether the steps can be cut into whole moves
     pub(crate) cut: bool,
     // the push that stands open, by the square left and the pushed piece
-    pub(crate) open_push: Option<Left>,
+    pub(crate) open_push: Option<(Square, Piece)>,
     // the pull that may still be completed, by the square left and the puller
-    pub(crate) open_pull: Option<Left>,
+    pub(crate) open_pull: Option<(Square, Piece)>,
 }
 
 /// A step that was made: the state after it, and the piece that it removed.
 #[derive(Clone, Copy, Debug, PartialEq, Eq)]
 pub struct StepDone {
     pub state: TurnState,
-    pub removed: Option<Left>,
+    pub removed: Option<(Square, Piece)>,
 }
 
 // The square and the piece of a step, where a fact holds.
-fn left_if(holds: bool, step: &Step) -> Option<Left>
+fn left_if(holds: bool, step: &Step) -> Option<(Square, Piece)>
     ensures { result ≡ left_if holds step.now }
 {
     if holds {
-        Some(Left {
-            square: step.from,
-            piece: step.piece,
-        })
+        Some((step.from, step.piece))
     } else {
         None
     }
 }
 
-// What a trap loses.
-fn content_at(board: &Board, trap: Option<Square>) -> Option<Left>
-    ensures { result ≡ content_at board.now trap }
+// The trap of a mark, and its piece.
+fn trap_first(mark: Option<(Piece, Square)>) -> Option<(Square, Piece)>
+    ensures { result ≡ trap_first mark }
 {
-    match trap {
+    match mark {
         None => None,
-        Some(square) => match board.at(square) {
-            None => None,
-            Some(piece) => Some(Left { square, piece }),
-        },
-    }
-}
-
-// The piece that a step removes.
-#[tactic(auto, unfolding(crate::specs::State::removed_by))]
-pub(crate) fn removed_by(board: &Board, step: &Step) -> Option<Left>
-    ensures { result ≡ removed_by board.now step.now }
-{
-    match step.from.step(step.dir) {
-        None => None,
-        Some(to) => {
-            let mut next = *board;
-            next.put(step.from, None);
-            next.put(to, board.at(step.from));
-            content_at(&next, next.unsupported())
-        }
+        Some((piece, trap)) => Some((trap, piece)),
     }
 }
 
@@ -169,12 +141,12 @@ impl TurnState {
     fn completes_push(&self, step: &Step) -> bool
         ensures { result ≡ completes_push self.now step.now self.now.open_push }
     {
-        match &self.open_push {
+        match self.open_push {
             None => false,
-            Some(left) => {
-                self.could_push(left.piece, step)
+            Some((square, piece)) => {
+                self.could_push(piece, step)
                     && can_step(&self.board, step)
-                    && enters(left.square, step.from.step(step.dir))
+                    && enters(square, step.from.step(step.dir))
             }
         }
     }
@@ -183,12 +155,12 @@ impl TurnState {
     fn completes_pull(&self, step: &Step) -> bool
         ensures { result ≡ completes_pull self.now step.now self.now.open_pull }
     {
-        match &self.open_pull {
+        match self.open_pull {
             None => false,
-            Some(left) => {
-                beats(left.piece, step.piece)
+            Some((square, puller)) => {
+                beats(puller, step.piece)
                     && can_step(&self.board, step)
-                    && enters(left.square, step.from.step(step.dir))
+                    && enters(square, step.from.step(step.dir))
             }
         }
     }
@@ -218,7 +190,7 @@ impl TurnState {
                 open_push: left_if(as_half, step),
                 open_pull: left_if(as_single, step),
             },
-            removed: removed_by(&self.board, step),
+            removed: trap_first(removed(&self.board, step)),
         })
     }
 
