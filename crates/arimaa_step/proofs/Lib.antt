@@ -7,3 +7,6 @@ pub mod Removals
 pub mod StateWordsLaws
 pub mod TurnLaws
 pub mod MarkLaws
+pub mod Forward
+pub mod Outcomes
+pub mod Sameness

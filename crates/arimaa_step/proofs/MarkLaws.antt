@@ -12,7 +12,7 @@ use Rattle.arimaa_board.specs.Piece.{code_of, piece_of_code}
 use Rattle.arimaa_board.specs.CodeLaws.{piece_of_code-code_of_content}
 use Rattle.arimaa_board.specs.Noted.{noted_turn, noted_marks}
 use Rattle.arimaa_model.specs.Moves.{after}
-use Rattle.arimaa_step.specs.Marks.{removed_by, marks_of, same_mark}
+use Rattle.arimaa_model.specs.Marks.{removed_by, marks_of, same_mark, marks_right}
 use Rattle.arimaa_step.specs.declared.marking.Marks.{Marks}
 use Rattle.arimaa_step.specs.declared.marking.Marks.TheVariants.{Required, Optional}
 use Rattle.arimaa_step.proofs.Walking.{rest_is}
@@ -53,7 +53,7 @@ marked_all b steps ns k past turn done =
     let two : length (marks_of b steps) ≤ k = omega (arith, length-marks_of b steps) in
     sym (take_all k (noted_marks ns) one) ∙ (done ∙ take_all k (marks_of b steps) two)
 
-same_code : (p q : Piece) → (code_of p == code_of q) ≡ true → p ≡ q
+pub same_code : (p q : Piece) → (code_of p == code_of q) ≡ true → p ≡ q
 same_code p q h =
     let known : Some p ≡ Some q = sym (piece_of_code-code_of_content (Some p)) ∙ (ap piece_of_code (eqb-true (code_of p) (code_of q) h) ∙ piece_of_code-code_of_content (Some q)) in
     cc
@@ -120,3 +120,9 @@ right-optional b (n ∷ rest) h =
 pub marks_fit-MarksFit : (rule : Marks) (b : Board) (ns : List NotedStep) → IsTrue (marks_fit rule b ns) ↔ MarksFit rule b ns
 marks_fit-MarksFit Required b ns = (required-right b ns, right-required b ns)
 marks_fit-MarksFit Optional b ns = (optional-right b ns, right-optional b ns)
+
+-- where marks are required, the test is the one for right marks
+pub marks_fit-marks_right : (b : Board) (ns : List NotedStep) → marks_fit Required b ns ≡ marks_right b (noted_turn ns) (noted_marks ns)
+unfolding marks_fit marks_right
+marks_fit-marks_right b [] = refl
+marks_fit-marks_right b (n ∷ rest) = ap (λ v. same_mark n.mark (removed_by b n.step) && v) (marks_fit-marks_right (after b n.step) rest)

@@ -13,7 +13,7 @@ use Rattle.arimaa_board.specs.Fit.{is_unsupported}
 use Rattle.arimaa_board.specs.BoardLaws.{same_boards, at-put_same, at-put_other, at-board_of, length-board_of, kept_off_traps}
 use Rattle.arimaa_board.specs.declared.position.Step.{Step}
 use Rattle.arimaa_model.specs.Moves.{fits, after, target, is_free}
-use Rattle.arimaa_step.specs.Marks.{removed_by, content_at}
+use Rattle.arimaa_model.specs.Marks.{removed_by, content_at}
 use Rattle.arimaa_step.specs.State.{trap_first}
 use Rattle.arimaa_step.specs.Removal.{IsWithout}
 use Rattle.arimaa_step.proofs.Shades.{across, some_if}

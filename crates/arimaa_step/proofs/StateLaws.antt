@@ -1,22 +1,24 @@
 -- What a state keeps decides what may follow the steps for which it stands.
-use Rattle.std.proofs.Common.{◌≡◌, List, [], ◌∷◌, Bool, true, false, cond, None, Some, refl, ◌∙◌, ap, ⊎_elim, arith, length, ne_eqb, add-one}
-use Rattle.std.specs.Prelude.{◌&&◌, ◌||◌, ◌==◌, nat_le}
+use Rattle.std.proofs.Common.{◌≡◌, List, [], ◌∷◌, Bool, true, false, cond, None, Some, refl, ◌∙◌, ap, ⊎_elim, arith, length, ne_eqb, add-one, Ok, Err}
+use Rattle.std.specs.Prelude.{◌&&◌, ◌||◌, ◌==◌, not, nat_le}
 use Rattle.std.proofs.lemmas.Bool.{or_cases, and_parts}
 use Rattle.arimaa_board.specs.declared.piece.Color.{Color}
 use Rattle.arimaa_board.specs.declared.board.Board.{Board}
 use Rattle.arimaa_board.specs.Board.{settle}
 use Rattle.arimaa_board.specs.declared.position.Position.{Position}
 use Rattle.arimaa_board.specs.declared.position.Step.{Step}
+use Rattle.arimaa_board.specs.Words.{same_squares}
 use Rattle.arimaa_model.specs.declared.fault.StepFault.TheVariants as fault
+use Rattle.arimaa_model.specs.declared.fault.TurnFault.TheVariants.{Unfinished, Same}
 use Rattle.arimaa_model.specs.Frozen.{beats}
 use Rattle.arimaa_model.specs.Moves.{target, fits, after, can_push, enters, is_single, is_half, is_push, is_pull}
 use Rattle.arimaa_model.specs.Backward.{after_back, cuts_back, opens_back}
-use Rattle.arimaa_model.specs.Faults.{ends_push, ends_pull, rule_of, step_fault, unless}
+use Rattle.arimaa_model.specs.Faults.{ends_push, ends_pull, rule_of, step_fault, unless, reached_by}
 use Rattle.arimaa_model.proofs.Growing.{single_fits, half_fits, pair_fits}
 use Rattle.arimaa_step.specs.declared.state.TurnState.{TurnState}
-use Rattle.arimaa_step.specs.Marks.{removed_by}
-use Rattle.arimaa_step.specs.State.{left_if, open_of, pull_of, state_of, step_answer, trap_first}
-use Rattle.arimaa_step.specs.Next.{could_push, completes_push, completes_pull, cuts_next, next_state, next_fault, next_answer}
+use Rattle.arimaa_model.specs.Marks.{removed_by}
+use Rattle.arimaa_step.specs.State.{left_if, open_of, pull_of, state_of, step_answer, finish_answer, trap_first}
+use Rattle.arimaa_step.specs.Next.{could_push, completes_push, completes_pull, cuts_next, next_state, next_fault, next_answer, state_end}
 use Rattle.arimaa_step.proofs.Pushers.{after_settled, same_pusher}
 
 -- the last of steps that can be cut fits
@@ -119,3 +121,14 @@ fault_law p back s = λ i.
 pub answer_law : (p : Position) (back : List Step) (s : Step) → next_answer (state_of p back) s ≡ step_answer p back s
 unfolding next_answer
 answer_law p back s = λ i. unless (fault_law p back s i) (record { state = state_law p back s i; removed = trap_first (removed_by (after_back p.board back) s) })
+
+-- the end of a turn, computed from what a state keeps
+pub end_law : (p : Position) (back : List Step) → state_end (state_of p back) ≡ finish_answer p back
+end_law p [] = refl
+end_law p (s ∷ before) =
+    let some : (length (s ∷ before) == 0) ≡ false = ne_eqb (length (s ∷ before)) 0 (omega arith) in
+    rw some (parts (cuts_back p.board p.side (s ∷ before)) (same_squares (after_back p.board (s ∷ before)) p.board)) where
+      parts : (u v : Bool) → cond (not u) (Err Unfinished) (cond v (Err Same) (Ok (reached_by p (s ∷ before)))) ≡ unless (cond (not u) (Some Unfinished) (cond v (Some Same) None)) (reached_by p (s ∷ before))
+      parts true true = refl
+      parts true false = refl
+      parts false v = refl

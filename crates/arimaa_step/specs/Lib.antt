@@ -1,5 +1,5 @@
-pub mod Marks
 pub mod State
+pub mod Same
 pub mod Future
 pub mod Removal
 pub mod MarkRules

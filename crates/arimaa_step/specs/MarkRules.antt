@@ -8,7 +8,7 @@ use Rattle.arimaa_board.specs.Noted.{noted_turn, noted_marks}
 use Rattle.arimaa_model.specs.Moves.{after}
 use Rattle.arimaa_step.specs.declared.marking.Marks.{Marks}
 use Rattle.arimaa_step.specs.declared.marking.Marks.TheVariants.{Required, Optional}
-use Rattle.arimaa_step.specs.Marks.{removed_by, marks_of, same_mark}
+use Rattle.arimaa_model.specs.Marks.{removed_by, marks_of, same_mark}
 
 -- a mark stands exactly after each step that removes a piece, and names it; or at least no mark is wrong
 abbrev pub MarksFit : Marks → Board → List NotedStep → Type 0

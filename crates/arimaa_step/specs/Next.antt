@@ -14,7 +14,7 @@ use Rattle.arimaa_model.specs.declared.fault.TurnFault.TheVariants.{Empty, Unfin
 use Rattle.arimaa_model.specs.Results.{position_of}
 use Rattle.arimaa_step.specs.declared.state.TurnState.{TurnState}
 use Rattle.arimaa_step.specs.declared.state.StepDone.{StepDone}
-use Rattle.arimaa_step.specs.Marks.{removed_by}
+use Rattle.arimaa_model.specs.Marks.{removed_by}
 use Rattle.arimaa_step.specs.State.{left_if, trap_first}
 
 -- whether a piece could push before the first half, which was the first step or left the pusher as free as it was

@@ -3,7 +3,7 @@ use Rattle.std.specs.List.{slice_set}
 use Rattle.std.proofs.lemmas.List.{length-map}
 use Rattle.arimaa_board.specs.Noted.{noted_turn, noted_marks}
 use Rattle.arimaa_step.proofs.MarkLaws.{marked, marked_more, marked_all, length-marks_of}
-use Rattle.arimaa_step.specs.Marks.{marks_of}
+use Rattle.arimaa_model.specs.Marks.{marks_of}
 use Rattle.arimaa_step.proofs.marking.with_marks.Goals as goal
 
 pub loop-k-preserved : goal.loop-k-preserved
