@@ -4,6 +4,8 @@
 mod applying;
 mod marking;
 mod state;
+#[cfg(test)]
+mod tests;
 mod words;
 
 pub use applying::apply;
