@@ -19,7 +19,7 @@ mod winning;
 pub use deciding::decided;
 pub use fault::{ApplyFault, FirstFault, StepFault, TurnFault};
 pub use freezing::{beats, frozen};
-pub use laws::{ranks_agree, tests_are_the_rules, wins_one_more, won_has_rank};
+pub use laws::{entries_are_exact, ranks_are_least, results_are_reached, steps_keep_boards_fit, tests_are_the_rules, turns_keep_boards_fit};
 pub use listing::single_results;
 pub use marks::{marks_right, removed};
 pub use moves::{after, can_push, can_step, enters, goes_back, half_push, holds, is_free, pull, push, single};
