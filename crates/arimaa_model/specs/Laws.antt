@@ -24,42 +24,49 @@ use Rattle.arimaa_model.specs.Ranks.{IsRank}
 use Rattle.arimaa_model.specs.Strategies.{Planned, find_entry, IsStrategyOf, IsEntry}
 use Rattle.arimaa_model.specs.Relations.{IsFrozen, IsSingle, BeginsPush, IsPush, IsPull, HasCutting, HasOpenCutting, IsTurn, IsHome}
 
--- ---- the tests decide the rules
-
+-- the test for frozen decides the rule
 abbrev pub FrozenIsTheRule : Type 0
 FrozenIsTheRule = (b : Board) (s : ℕ) → IsTrue (is_frozen b s) ↔ IsFrozen b s
 
+-- the test for a single step decides the rule
 abbrev pub SingleIsTheRule : Type 0
 SingleIsTheRule = (b : Board) (side : Color) (s : Step) → IsTrue (is_single b side s) ↔ IsSingle b side s
 
+-- the test for the first half of a push decides the rule
 abbrev pub HalfIsTheRule : Type 0
 HalfIsTheRule = (b : Board) (side : Color) (s : Step) → IsTrue (is_half b side s) ↔ BeginsPush b side s
 
+-- the test for a push decides the rule
 abbrev pub PushIsTheRule : Type 0
 PushIsTheRule = (b : Board) (side : Color) (s t : Step) → IsTrue (is_push b side s t) ↔ IsPush b side s t
 
+-- the test for a pull decides the rule
 abbrev pub PullIsTheRule : Type 0
 PullIsTheRule = (b : Board) (side : Color) (s t : Step) → IsTrue (is_pull b side s t) ↔ IsPull b side s t
 
+-- the test for whole moves decides the rule
 abbrev pub CuttingIsTheRule : Type 0
 CuttingIsTheRule = (b : Board) (side : Color) (steps : List Step) → IsTrue (has_cutting b side steps) ↔ HasCutting b side steps
 
+-- the test for whole moves and the first half of a push decides the rule
 abbrev pub OpenCuttingIsTheRule : Type 0
 OpenCuttingIsTheRule = (b : Board) (side : Color) (steps : List Step) → IsTrue (has_open_cutting b side steps) ↔ HasOpenCutting b side steps
 
+-- the test for a turn decides the rule
 abbrev pub TurnIsTheRule : Type 0
 TurnIsTheRule = (b : Board) (side : Color) (steps : List Step) → IsTrue (is_turn b side steps) ↔ IsTurn b side steps (after_all b steps)
 
+-- the test for a rabbit at its goal decides the rule
 abbrev pub HomeIsTheRule : Type 0
 HomeIsTheRule = (b : Board) (c : Color) → IsTrue (is_home b c) ↔ IsHome b c
 
+-- a turn may bring about just the results that stood at most once
 abbrev pub LawfulIsTheRule : Type 0
 LawfulIsTheRule = (h : List Position) (p q : Position) → IsLawfulAt h p q ↔ (Stands (results p) q × (count_in h q ≤ 1))
 
+-- the test for a forced win decides the rule
 abbrev pub WinsIsTheRule : Type 0
 WinsIsTheRule = (a : Color) (barred : List Position) (n : ℕ) (p : Position) → IsTrue (wins a barred n p) ↔ Wins a barred n p
-
--- ---- steps
 
 -- a fit board stays fit
 abbrev pub StepsKeepFit : Type 0
@@ -79,8 +86,6 @@ PushersStay =
     (b : Board) (side : Color) (s t : Step) → IsFit b → IsTrue (fits b s) → IsTrue (fits (after b s) t) → IsTrue (enters s.from (target t)) →
     (beats t.piece s.piece && not (is_frozen (after b s) t.from)) ≡ can_push b s.piece (Some t.from)
 
--- ---- turns and results
-
 -- a turn keeps a fit board fit
 abbrev pub TurnsKeepFit : Type 0
 TurnsKeepFit = (b : Board) (side : Color) (steps : List Step) (c : Board) → IsFit b → IsTurn b side steps c → IsFit c
@@ -89,6 +94,7 @@ TurnsKeepFit = (b : Board) (side : Color) (steps : List Step) (c : Board) → Is
 abbrev pub NumbersNeverGrow : Type 0
 NumbersNeverGrow = (b : Board) (side : Color) (steps : List Step) (c : Board) (p : Piece) → IsFit b → IsTurn b side steps c → count_of c p ≤ count_of b p
 
+-- no position is twice among the results
 abbrev pub ResultsAreDistinct : Type 0
 ResultsAreDistinct = (p : Position) → AreDistinct (results p)
 
@@ -99,8 +105,6 @@ ResultsAreReached = (p q : Position) → Stands (results p) q → (q.side ≡ ot
 -- what a turn reaches is a result
 abbrev pub TurnsReachResults : Type 0
 TurnsReachResults = (p : Position) (steps : List Step) (c : Board) → length p.board ≡ 64 → IsTurn p.board p.side steps c → Stands (results p) (position_of c p)
-
--- ---- wins, ranks and strategies
 
 -- what is won within n turns is won within one more
 abbrev pub WinsOneMore : Type 0

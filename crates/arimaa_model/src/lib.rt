@@ -27,4 +27,4 @@ pub use plain::{plain_results, same_position, stands_in, turn_result};
 pub use plain_fault::{broken_rule, plain_first_fault, plain_step_fault};
 pub use ending::{Cause, Ending};
 pub use turns::{after_all, has_cutting, has_open_cutting, is_turn, may_grow};
-pub use winning::{next, plain_wins};
+pub use winning::{next, plain_rank, plain_wins};
