@@ -1,5 +1,5 @@
 -- Laws on the definitions, as facts for contracts.
-use Rattle.std.specs.Prelude.{◌≡◌, ℕ, ◌+◌, ◌≤◌, ◌&&◌, not, ◌↔◌, List, ◌∷◌, length, map, Option, None, Some, IsTrue}
+use Rattle.std.specs.Prelude.{◌≡◌, ℕ, ◌+◌, ◌≤◌, ◌&&◌, not, ◌↔◌, List, length, map, None, Some, IsTrue}
 use Rattle.std.specs.List.{Contains}
 use Rattle.arimaa_board.specs.declared.piece.Color.{Color}
 use Rattle.arimaa_board.specs.declared.piece.Piece.{Piece}
@@ -7,12 +7,15 @@ use Rattle.arimaa_board.specs.declared.board.Board.{Board}
 use Rattle.arimaa_board.specs.declared.position.Position.{Position}
 use Rattle.arimaa_board.specs.declared.position.Step.{Step}
 use Rattle.arimaa_board.specs.Piece.{other_color}
-use Rattle.arimaa_board.specs.Square.{next_square, is_trap}
+use Rattle.arimaa_board.specs.Square.{is_trap}
 use Rattle.arimaa_board.specs.Board.{moved, count_of}
 use Rattle.arimaa_board.specs.Fit.{IsFit}
 use Rattle.arimaa_model.specs.Frozen.{is_frozen, beats}
 use Rattle.arimaa_model.specs.Moves.{fits, after, target, enters, can_push, is_single, is_half, is_push, is_pull}
-use Rattle.arimaa_model.specs.Turns.{after_all, has_cutting, has_open_cutting, is_turn}
+use Rattle.arimaa_model.specs.Turns.{after_all, has_cutting, has_open_cutting, may_grow, is_turn}
+use Rattle.arimaa_model.specs.declared.fault.StepFault.{StepFault}
+use Rattle.arimaa_model.specs.Faults.{first_fault}
+use Rattle.arimaa_model.specs.FirstFaults.{IsFirstStuck}
 use Rattle.arimaa_model.specs.Decided.{is_home}
 use Rattle.arimaa_model.specs.Marks.{removed_by, IsWithout}
 use Rattle.arimaa_model.specs.Results.{position_of, results}
@@ -129,3 +132,11 @@ FirstEntryHasRank = (a : Color) (barred : List Position) (p : Position) (s : Lis
 -- no position has two entries
 abbrev pub EntriesAreDistinct : Type 0
 EntriesAreDistinct = (a : Color) (barred : List Position) (p : Position) (s : List Planned) → IsStrategyOf a barred p s → AreDistinct (map (λ e. e.position) s)
+
+-- the first step with a fault is the first that is stuck
+abbrev pub FirstFaultIsStuck : Type 0
+FirstFaultIsStuck = (b : Board) (side : Color) (steps : List Step) (k : ℕ) (f : StepFault) → first_fault b side steps ≡ Some (k, f) → IsFirstStuck b side steps k
+
+-- no step has a fault just where there are at most four, and they can be cut or opened
+abbrev pub FaultFreeIsTheRule : Type 0
+FaultFreeIsTheRule = (b : Board) (side : Color) (steps : List Step) → (first_fault b side steps ≡ None) ↔ ((length steps ≤ 4) × IsTrue (may_grow b side steps))

@@ -3,6 +3,7 @@ ghost use Rattle.arimaa_model.specs.Laws.{FrozenIsTheRule, SingleIsTheRule, Half
 ghost use Rattle.arimaa_model.specs.Laws.{StepsKeepFit, StepsRemoveOne, TrapsRemove, PushersStay};
 ghost use Rattle.arimaa_model.specs.Laws.{TurnsKeepFit, NumbersNeverGrow, ResultsAreDistinct, ResultsAreReached, TurnsReachResults};
 ghost use Rattle.arimaa_model.specs.Laws.{WinsOneMore, RanksAgree, WonHasRank, EntriesAreExact, FirstEntryHasRank, EntriesAreDistinct};
+ghost use Rattle.arimaa_model.specs.Laws.{FirstFaultIsStuck, FaultFreeIsTheRule};
 
 /// Each test decides the rule that it stands for, as the rule book says it.
 pub fn tests_are_the_rules()
@@ -52,4 +53,10 @@ pub fn entries_are_exact()
     ensures exact { EntriesAreExact }
     ensures first { FirstEntryHasRank }
     ensures distinct { EntriesAreDistinct }
+{}
+
+/// The first fault of steps is at the first step with which they can neither be cut nor opened.
+pub fn first_faults_are_stuck()
+    ensures stuck { FirstFaultIsStuck }
+    ensures free { FaultFreeIsTheRule }
 {}
