@@ -1,2 +1,4 @@
+pub mod Calls
 pub mod Faults
+pub mod Memory
 pub mod Status

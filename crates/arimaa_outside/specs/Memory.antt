@@ -1,0 +1,19 @@
+-- What a source and a sink in memory hold.
+use Rattle.std.specs.Prelude.{ℕ, List, length, min}
+use Rattle.arimaa_outside.specs.Calls.{Tally}
+
+-- the bytes that a source has left, the most that one call gives, and its calls
+pub record Reading : Type 0 where
+  pub left : List ℕ
+  pub piece : ℕ
+  pub calls : Tally
+
+-- the bytes that a sink was given, the most that one call takes, and its calls
+pub record Writing : Type 0 where
+  pub written : List ℕ
+  pub piece : ℕ
+  pub calls : Tally
+
+-- how many bytes a read gives where the buffer has this room
+abbrev pub read_len : Reading → ℕ → ℕ
+read_len source room = min (min source.piece room) (length source.left)
