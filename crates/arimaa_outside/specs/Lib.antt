@@ -1,4 +1,5 @@
 pub mod Calls
 pub mod Faults
-pub mod Memory
+pub mod MemSink
+pub mod MemSource
 pub mod Status

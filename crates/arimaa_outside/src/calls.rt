@@ -7,7 +7,7 @@ use std::marker::Model;
 
 /// Which calls of an object fail, by their numbers from 1, and what was counted so far.
 #[derive(Drop)]
-pub struct Calls {
+pub(crate) struct Calls {
     fails: Vec<u64>,
     made: u64,
     faults: u64,

@@ -13,6 +13,8 @@ mod source;
 mod status;
 mod std_sink;
 mod std_source;
+#[cfg(test)]
+mod tests;
 
 pub use command_words::CommandWords;
 pub use failed::Failed;

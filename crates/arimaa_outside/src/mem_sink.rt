@@ -19,7 +19,7 @@ pub struct MemSink {
 
 impl Model for MemSink {
     ghost use Rattle.std.specs.Prelude.{◌≤◌};
-    ghost use Rattle.arimaa_outside.specs.Memory.{Writing};
+    ghost use Rattle.arimaa_outside.specs.MemSink.{Writing};
 
     ghost Value = { Writing };
 
@@ -34,7 +34,10 @@ impl MemSink {
     pub fn new(alloc: Global, piece: usize, fails: Vec<u64>) -> Self
         requires { 1 ≤ piece }
         ensures { result ≡ record {
-            written = []; piece = piece; calls = record { fails = fails.items; made = 0; faults = 0 } } }
+          written = [];
+          piece = piece;
+          calls = record { fails = fails.items; made = 0; faults = 0 };
+        } }
     {
         MemSink {
             bytes: Vec::new(alloc),

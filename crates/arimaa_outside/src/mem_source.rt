@@ -2,7 +2,7 @@
 ghost use Rattle.std.specs.Prelude.{◌≡◌, ◌<◌, ◌≤◌, ◌++◌, ◌↔◌, IfOk, IsErr, OnErr, Some, drop, length, take, vec_len};
 ghost use Rattle.std.specs.Io.KnownBytes.{IsAtEnd};
 ghost use Rattle.arimaa_outside.specs.Calls.{NextFails, after_fault, after_success};
-ghost use Rattle.arimaa_outside.specs.Memory.{read_len};
+ghost use Rattle.arimaa_outside.specs.MemSource.{read_len};
 
 use crate::calls::Calls;
 use crate::failed::Failed;
@@ -20,7 +20,7 @@ pub struct MemSource {
 
 impl Model for MemSource {
     ghost use Rattle.std.specs.Prelude.{◌≤◌, drop, vec_len};
-    ghost use Rattle.arimaa_outside.specs.Memory.{Reading};
+    ghost use Rattle.arimaa_outside.specs.MemSource.{Reading};
 
     ghost Value = { Reading };
 
@@ -35,7 +35,10 @@ impl MemSource {
     pub fn new(bytes: Vec<u8>, piece: usize, fails: Vec<u64>) -> Self
         requires { 1 ≤ piece }
         ensures { result ≡ record {
-            left = bytes.items; piece = piece; calls = record { fails = fails.items; made = 0; faults = 0 } } }
+          left = bytes.items;
+          piece = piece;
+          calls = record { fails = fails.items; made = 0; faults = 0 };
+        } }
     {
         MemSource {
             bytes,

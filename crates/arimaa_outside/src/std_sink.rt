@@ -13,10 +13,10 @@ pub struct StdSink<W> {
     faults: u64,
 }
 
-impl<W> StdSink<W> {
+impl<W: Write> StdSink<W> {
     /// No write has failed yet.
     pub fn new(writer: W) -> Self
-        ensures { result ≡ record { writer = writer; faults = 0 } }
+        ensures { ⟦<StdSink<W> as Sink>⟧.faults result ≡ 0 }
     {
         StdSink { writer, faults: 0 }
     }

@@ -12,10 +12,10 @@ pub struct StdSource<R> {
     faults: u64,
 }
 
-impl<R> StdSource<R> {
+impl<R: Read> StdSource<R> {
     /// No read has failed yet.
     pub fn new(reader: R) -> Self
-        ensures { result ≡ record { reader = reader; faults = 0 } }
+        ensures { ⟦<StdSource<R> as Source>⟧.faults result ≡ 0 }
     {
         StdSource { reader, faults: 0 }
     }
