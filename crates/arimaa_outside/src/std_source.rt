@@ -1,5 +1,7 @@
 //! A source over a reader of the system.
-ghost use Rattle.std.specs.Prelude.{◌≡◌, None};
+ghost use Rattle.std.specs.Prelude.{◌≡◌, ◌≤◌, IfOk, None, OnErr, OnOk, length};
+ghost use Rattle.std.specs.Io.KnownBytes.{ReadConsumes};
+ghost use Rattle.arimaa_outside.specs.Faults.{HasRisen};
 
 use crate::failed::Failed;
 use crate::source::Source;
@@ -26,7 +28,14 @@ impl<R: Read> Source for StdSource<R> {
 
     ghost faults = { λ s. s.faults };
 
-    fn read(&mut self, buf: &mut [u8]) -> Result<usize, Failed> {
+    // Where the reader itself tells what it has left, the bytes are the next of those.
+    fn read(&mut self, buf: &mut [u8]) -> Result<usize, Failed>
+        ensures reader { ReadConsumes (R.remaining self.old.reader) (R.remaining self.new.reader) result buf.new }
+        ensures bound { IfOk result (λ n. n ≤ length buf.new) }
+        ensures sound { OnOk result (self.new.faults ≡ self.old.faults) }
+        ensures failed { OnErr result (HasRisen self.old.faults self.new.faults) }
+        ensures never_falls { self.old.faults ≤ self.new.faults }
+    {
         match self.reader.read(buf) {
             Ok(count) => Ok(count),
             Err(_) => {
