@@ -1,5 +1,5 @@
 //! Bytes that come in, and all of them read.
-ghost use Rattle.std.specs.Prelude.{◌≡◌, ◌<◌, ◌≤◌, ℕ, List, Option, IfErr, IfOk, IfSome, IsErrOf, OnErr, OnOk, length, option_map, take, vec_len, [], ◌∷◌};
+ghost use Rattle.std.specs.Prelude.{◌≡◌, ◌<◌, ◌≤◌, ℕ, List, Option, IfOk, IfSome, IsErrOf, OnErr, OnOk, length, option_map, take, vec_len, []};
 ghost use Rattle.std.specs.Io.KnownBytes.{IsAtEnd, prepend_known};
 ghost use Rattle.arimaa_outside.specs.Faults.{HasRisen};
 ghost use Rattle.arimaa_outside.specs.declared.source.ReadAll.TheVariants.{Fault, Memory};
