@@ -2,6 +2,8 @@
 #![tactic(auto)]
 
 mod finding;
+#[cfg(test)]
+mod tests;
 mod walking;
 mod wanted;
 
