@@ -13,7 +13,8 @@ use Rattle.arimaa_board.specs.Fit.{is_unsupported}
 use Rattle.arimaa_board.specs.BoardLaws.{same_boards, at-put_same, at-put_other, at-board_of, length-board_of, kept_off_traps}
 use Rattle.arimaa_board.specs.declared.position.Step.{Step}
 use Rattle.arimaa_model.specs.Moves.{fits, after, target, is_free}
-use Rattle.arimaa_step.specs.State.{removed_by, content_at}
+use Rattle.arimaa_model.specs.Marks.{removed_by, content_at}
+use Rattle.arimaa_step.specs.State.{trap_first}
 use Rattle.arimaa_step.specs.Removal.{IsWithout}
 use Rattle.arimaa_step.proofs.Shades.{across, some_if}
 use Rattle.arimaa_step.proofs.Pushers.{held_piece, on_board, free_square, after_is, Going, moved_others, moved_from, size, kept_by_friend, friend_beside, kept_some}
@@ -153,17 +154,17 @@ module _ (m : Board) (t : ℕ) (long : length m ≡ 64) (small : t < 64) (others
       (λ far. let ne : x ≢ t = λ e. far (sym e) in others x inside far ∙ sym (at-put_other m t x None ne))
       (cases_eq t x))
 
-  by_kept : (r : Piece) (k : Option Piece) → at m t ≡ Some r → kept m t (Some r) ≡ k → IsWithout m (settle m) (content_at m (cond (not (is_some k)) (Some t) None))
+  by_kept : (r : Piece) (k : Option Piece) → at m t ≡ Some r → kept m t (Some r) ≡ k → IsWithout m (settle m) (trap_first (content_at m (cond (not (is_some k)) (Some t) None)))
   by_kept r None e stays = let gone : at (settle m) t ≡ None = there ∙ (ap (kept m t) e ∙ stays) in rw e (e, one_lost gone)
   by_kept r (Some x) e stays =
       let same : Some r ≡ Some x = kept_some m t (Some r) x stays in
       nothing_lost (there ∙ (ap (kept m t) e ∙ (stays ∙ (sym same ∙ sym e))))
 
-  by_content : (o : Option Piece) → at m t ≡ o → IsWithout m (settle m) (content_at m (cond (is_some o && not (is_some (kept m t o))) (Some t) None))
+  by_content : (o : Option Piece) → at m t ≡ o → IsWithout m (settle m) (trap_first (content_at m (cond (is_some o && not (is_some (kept m t o))) (Some t) None)))
   by_content None e = nothing_lost (there ∙ (ap (kept m t) e ∙ sym e))
   by_content (Some r) e = by_kept r (kept m t (Some r)) e refl
 
-  removal_from : IsWithout m (settle m) (content_at m (cond (is_unsupported m t) (Some t) None))
+  removal_from : IsWithout m (settle m) (trap_first (content_at m (cond (is_unsupported m t) (Some t) None)))
   removal_from = by_content (at m t) refl
 
 module _ (b : Board) (f g : ℕ) (q : Piece) (go : Going b f g q) (way : (d : Dir) × (next_square g d ≡ Some f)) where
@@ -235,13 +236,13 @@ module _ (b : Board) (f g : ℕ) (q : Piece) (go : Going b f g q) (way : (d : Di
   unfolding settle
   settled_there = at-board_of (λ s. kept M s (at M s)) T near_small
 
-  removal : IsWithout M (settle M) (content_at M (find (is_unsupported M) traps))
+  removal : IsWithout M (settle M) (trap_first (content_at M (find (is_unsupported M) traps)))
   removal =
       let one : find (is_unsupported M) traps ≡ cond (is_unsupported M T) (Some T) None = find_one (is_unsupported M) f (λ x trap far. supported_else x trap far (trap_small x trap)) in
       rw one (removal_from M T long near_small settled_else settled_there)
 
 -- a step on a settled board removes the named piece, and no other
-pub removal_law : (b : Board) (s : Step) (to : ℕ) → settle b ≡ b → fits b s ≡ true → target s ≡ Some to → IsWithout (moved b s.from to) (after b s) (removed_by b s)
+pub removal_law : (b : Board) (s : Step) (to : ℕ) → settle b ≡ b → fits b s ≡ true → target s ≡ Some to → IsWithout (moved b s.from to) (after b s) (trap_first (removed_by b s))
 unfolding fits removed_by settle
 removal_law b s to calm fit at_to =
     let parts = and_parts (holds s.piece (at b s.from)) (is_free b (target s)) fit in

@@ -4,13 +4,12 @@ use Rattle.arimaa_board.specs.declared.piece.Piece.{Piece}
 use Rattle.arimaa_board.specs.Piece.{code_of, piece_of_code}
 use Rattle.arimaa_board.specs.Words.{word_of, squares_of}
 use Rattle.arimaa_board.specs.declared.position.Position.{Position}
-use Rattle.arimaa_step.specs.declared.state.Left.{Left}
 use Rattle.arimaa_step.specs.declared.state.TurnState.{TurnState}
 
 -- a square left and the piece that left it, in ten bits
-unfoldable pub left_code : Option Left → ℕ
+unfoldable pub left_code : Option (ℕ × Piece) → ℕ
 left_code None = 0
-left_code (Some l) = 1 + l.square + 64 * code_of l.piece
+left_code (Some l) = 1 + l.0 + 64 * code_of l.1
 
 abbrev pub bit_of : Bool → ℕ
 bit_of true = 1
@@ -23,11 +22,11 @@ facts_of st = st.count + 8 * bit_of st.cut + 16 * left_code st.open_push + 16384
 abbrev pub state_words : TurnState → List ℕ
 state_words st = word_of st.board 0 ∷ word_of st.board 1 ∷ word_of st.board 2 ∷ word_of st.board 3 ∷ facts_of st ∷ []
 
-abbrev pub left_of : ℕ → Option Piece → Option Left
+abbrev pub left_of : ℕ → Option Piece → Option (ℕ × Piece)
 left_of s None = None
-left_of s (Some p) = Some (record { square = s; piece = p })
+left_of s (Some p) = Some (s, p)
 
-unfoldable pub left_from : ℕ → Option Left
+unfoldable pub left_from : ℕ → Option (ℕ × Piece)
 left_from n = if n == 0 then None else left_of ((n - 1) % 64) (piece_of_code ((n - 1) / 64))
 
 abbrev pub front_four : List ℕ → List ℕ

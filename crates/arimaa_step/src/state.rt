@@ -1,25 +1,24 @@
 //! What the steps so far leave open.
-ghost use Rattle.std.specs.Prelude.{◌≡◌, ℕ, [], List};
+ghost use Rattle.std.specs.Prelude.{◌≡◌, ◌↔◌, ◌≤◌, ◌<◌, ℕ, List, [], ◌∷◌, ◌++◌, length, reverse, IsTrue, IsOk, IfOk, Ok};
+ghost use Rattle.std.specs.Bool.{OnTrue};
 ghost use Rattle.std.specs.Prelude.{◌&&◌, ◌||◌, not};
 ghost use Rattle.arimaa_board.specs.declared.position.Position.{Position};
 ghost use Rattle.arimaa_board.specs.declared.position.Step.{Step};
-ghost use Rattle.arimaa_model.specs.Moves.{is_single, is_half};
-ghost use Rattle.arimaa_model.specs.Faults.{rule_of, first_rule};
-ghost use Rattle.arimaa_step.specs.State.{state_of, step_answer, finish_answer, left_if, left_at, content_at, removed_to, removed_by};
+ghost use Rattle.arimaa_board.specs.Board.{settle};
+ghost use Rattle.arimaa_model.specs.Moves.{after, is_single, is_half};
+ghost use Rattle.arimaa_model.specs.Turns.{after_all, may_grow};
+ghost use Rattle.arimaa_model.specs.Faults.{rule_of};
+ghost use Rattle.arimaa_step.specs.State.{state_of, step_answer, finish_answer, left_if, trap_first};
+ghost use Rattle.arimaa_step.specs.Same.{same_fact, same_left, same_state};
+ghost use Rattle.arimaa_step.specs.Removal.{LeadsTo};
+ghost use Rattle.arimaa_step.specs.Future.{HaveOneFuture, IsTurnTo};
 ghost use Rattle.arimaa_step.specs.Next.{could_push, completes_push, completes_pull, next_state, next_fault, next_answer, state_end};
 
-use arimaa_board::{Board, Color, Piece, Position, Square, Step};
+use arimaa_board::{Board, Piece, Position, Square, Step};
 use arimaa_model::{
-    StepFault, TurnFault, after, beats, can_push, can_step, enters, frozen, half_push, holds,
-    is_free, single,
+    StepFault, TurnFault, after, beats, broken_rule, can_push, can_step, enters, frozen, half_push,
+    removed, single,
 };
-
-/// A square left by a step, and the piece that left it.
-#[derive(Clone, Copy, Debug, PartialEq, Eq)]
-pub struct Left {
-    pub square: Square,
-    pub piece: Piece,
-}
 
 /// What the steps of a turn so far have reached, and what may follow.
 #[derive(Clone, Copy, Debug, PartialEq, Eq)]
@@ -30,112 +29,54 @@ pub struct TurnState {
     // whether the steps can be cut into whole moves
     pub(crate) cut: bool,
     // the push that stands open, by the square left and the pushed piece
-    pub(crate) open_push: Option<Left>,
+    pub(crate) open_push: Option<(Square, Piece)>,
     // the pull that may still be completed, by the square left and the puller
-    pub(crate) open_pull: Option<Left>,
+    pub(crate) open_pull: Option<(Square, Piece)>,
 }
 
 /// A step that was made: the state after it, and the piece that it removed.
 #[derive(Clone, Copy, Debug, PartialEq, Eq)]
 pub struct StepDone {
     pub state: TurnState,
-    pub removed: Option<Left>,
+    pub removed: Option<(Square, Piece)>,
 }
 
 // The square and the piece of a step, where a fact holds.
-fn left_if(holds: bool, step: &Step) -> Option<Left>
+fn left_if(holds: bool, step: &Step) -> Option<(Square, Piece)>
     ensures { result ≡ left_if holds step.now }
 {
     if holds {
-        Some(Left {
-            square: step.from,
-            piece: step.piece,
-        })
+        Some((step.from, step.piece))
     } else {
         None
     }
 }
 
-// What a trap loses.
-fn content_at(board: &Board, trap: Option<Square>) -> Option<Left>
-    ensures { result ≡ content_at board.now trap }
+// The trap of a mark, and its piece.
+fn trap_first(mark: Option<(Piece, Square)>) -> Option<(Square, Piece)>
+    ensures { result ≡ trap_first mark }
 {
-    match trap {
+    match mark {
         None => None,
-        Some(square) => match board.at(square) {
-            None => None,
-            Some(piece) => Some(Left { square, piece }),
-        },
+        Some((piece, trap)) => Some((trap, piece)),
     }
 }
 
-// The piece that a step removes.
-#[tactic(auto, unfolding(crate::specs::State::removed_by))]
-pub(crate) fn removed_by(board: &Board, step: &Step) -> Option<Left>
-    ensures { result ≡ removed_by board.now step.now }
+// Whether two facts are the same.
+fn same_fact(fact: bool, other: bool) -> bool
+    ensures { result ≡ same_fact fact other }
 {
-    match step.from.step(step.dir) {
-        None => None,
-        Some(to) => {
-            let mut next = *board;
-            next.put(step.from, None);
-            next.put(to, board.at(step.from));
-            content_at(&next, next.unsupported())
-        }
-    }
+    if fact { other } else { !other }
 }
 
-// The first rule that a step breaks.
-#[tactic(auto, unfolding(arimaa_model::specs::Faults::rule_of))]
-fn rule_of(
-    board: &Board,
-    side: Color,
-    cut: bool,
-    pushes: bool,
-    pulls: bool,
-    step: &Step,
-) -> StepFault
-    ensures { result ≡ rule_of board.now side cut pushes pulls step.now }
+// Whether the same piece left the same square, or none did.
+fn same_left(left: Option<(Square, Piece)>, other: Option<(Square, Piece)>) -> bool
+    ensures { result ≡ same_left left other }
 {
-    let own = step.piece.color == side;
-    first_rule(
-        holds(board.at(step.from), step.piece),
-        is_free(board, step.from.step(step.dir)),
-        all_of(!cut, !pushes),
-        none_of(own, pulls, half_push(board, side, step)),
-        all_of(own, frozen(board, step.from)),
-    )
-}
-
-fn none_of(a: bool, b: bool, c: bool) -> bool
-    ensures { result ≡ (not a && not b && not c) }
-{
-    !a && !b && !c
-}
-
-fn all_of(a: bool, b: bool) -> bool
-    ensures { result ≡ (a && b) }
-{
-    a && b
-}
-
-#[tactic(auto, unfolding(arimaa_model::specs::Faults::first_rule))]
-// The rule of the first of five facts that keeps a step back.
-fn first_rule(named: bool, free: bool, waiting: bool, loose: bool, stuck: bool) -> StepFault
-    ensures { result ≡ first_rule named free waiting loose stuck }
-{
-    if !named {
-        StepFault::Piece
-    } else if !free {
-        StepFault::Target
-    } else if waiting {
-        StepFault::OpenPush
-    } else if loose {
-        StepFault::Dislodge
-    } else if stuck {
-        StepFault::Frozen
-    } else {
-        StepFault::RabbitBack
+    match (left, other) {
+        (None, None) => true,
+        (Some(a), Some(b)) => a.0.number() == b.0.number() && a.1.code() == b.1.code(),
+        _ => false,
     }
 }
 
@@ -154,6 +95,33 @@ impl TurnState {
         }
     }
 
+    /// Whether two states are the same. Where they stand for steps from one position, exactly the same steps
+    /// may then follow, to the same boards and the same turns.
+    pub fn continues_as(&self, other: &TurnState) -> bool
+        ensures same { IsTrue result ↔ (self.now ≡ other.now) }
+        ensures future { OnTrue result (
+            (p : Position) (xs ys : List Step) → self.now ≡ state_of p (reverse xs)
+            → other.now ≡ state_of p (reverse ys) → HaveOneFuture p xs ys
+            ) }
+    {
+        self.is_same(other)
+    }
+
+    // Whether two states have the same start, board, number of steps and facts.
+    #[tactic(auto, unfolding(crate::specs::Same::same_state))]
+    fn is_same(&self, other: &TurnState) -> bool
+        ensures { result ≡ same_state self.now other.now }
+    {
+        let same_start = self.start.board == other.start.board
+            && self.start.side == other.start.side;
+        same_start
+            && self.board == other.board
+            && self.count == other.count
+            && same_fact(self.cut, other.cut)
+            && same_left(self.open_push, other.open_push)
+            && same_left(self.open_pull, other.open_pull)
+    }
+
     // Whether a piece could push another before the last step.
     fn could_push(&self, piece: Piece, step: &Step) -> bool
         ensures { result ≡ could_push self.now piece step.now }
@@ -169,12 +137,12 @@ impl TurnState {
     fn completes_push(&self, step: &Step) -> bool
         ensures { result ≡ completes_push self.now step.now self.now.open_push }
     {
-        match &self.open_push {
+        match self.open_push {
             None => false,
-            Some(left) => {
-                self.could_push(left.piece, step)
+            Some((square, piece)) => {
+                self.could_push(piece, step)
                     && can_step(&self.board, step)
-                    && enters(left.square, step.from.step(step.dir))
+                    && enters(square, step.from.step(step.dir))
             }
         }
     }
@@ -183,12 +151,12 @@ impl TurnState {
     fn completes_pull(&self, step: &Step) -> bool
         ensures { result ≡ completes_pull self.now step.now self.now.open_pull }
     {
-        match &self.open_pull {
+        match self.open_pull {
             None => false,
-            Some(left) => {
-                beats(left.piece, step.piece)
+            Some((square, puller)) => {
+                beats(puller, step.piece)
                     && can_step(&self.board, step)
-                    && enters(left.square, step.from.step(step.dir))
+                    && enters(square, step.from.step(step.dir))
             }
         }
     }
@@ -207,7 +175,7 @@ impl TurnState {
         let as_half = self.cut && half_push(&self.board, self.start.side, step);
         let cut = as_single || (pushes || pulls);
         if !(cut || as_half) {
-            return Err(rule_of(&self.board, self.start.side, self.cut, pushes, pulls, step));
+            return Err(broken_rule(&self.board, self.start.side, self.cut, pushes, pulls, step));
         }
         Ok(StepDone {
             state: TurnState {
@@ -218,13 +186,29 @@ impl TurnState {
                 open_push: left_if(as_half, step),
                 open_pull: left_if(as_single, step),
             },
-            removed: removed_by(&self.board, step),
+            removed: trap_first(removed(&self.board, step)),
         })
     }
 
-    /// Makes one more step. For all steps `before` for which this state stands.
+    /// Makes one more step.
+    ///
+    /// Ok exactly where fewer than four steps were made, and with this one the steps can be cut into singles,
+    /// pushes and pulls, or into these and the first half of a push. Else it is the first of these that holds:
+    ///
+    /// - `Fifth`: four steps were made;
+    /// - `Piece`: the square does not hold the named piece;
+    /// - `Target`: the next square is off the board or not empty;
+    /// - `OpenPush`: a push stands open, and this step does not complete it;
+    /// - `Dislodge`: an enemy piece whose step neither ends a pull nor begins a push;
+    /// - `Frozen`, `RabbitBack`: a piece of the side to move that is frozen, or a rabbit that goes backward.
     pub fn step(&self, step: Step) -> Result<StepDone, StepFault>
-        ensures { (p : Position) (before : List Step) → self.now ≡ state_of p before → result ≡ step_answer p before step }
+        ensures answer { (p : Position) (before : List Step) → self.now ≡ state_of p before → result ≡ step_answer p before step }
+        ensures accepted { (p : Position) (steps : List Step) → self.now ≡ state_of p (reverse steps)
+            → IsOk result ↔ ((length steps < 4) × IsTrue (may_grow p.board p.side (steps ++ step ∷ []))) }
+
+        // A board that the start position left settled loses at most the piece that is named.
+        ensures removed { (p : Position) (steps : List Step) → self.now ≡ state_of p (reverse steps) → settle p.board ≡ p.board
+            → IfOk result (λ done. LeadsTo (after_all p.board steps) step (after (after_all p.board steps) step) done.removed) }
     {
         self.next(&step)
     }
@@ -248,9 +232,15 @@ impl TurnState {
         })
     }
 
-    /// Ends the turn.
+    /// Ends the turn: the position after it, with the other side to move.
+    ///
+    /// Ok exactly where the steps are a turn: they can be cut into singles, pushes and pulls, and the board is
+    /// not the one before them. Else it is the first of these that holds: `Empty` (no step was made),
+    /// `Unfinished` (the steps cannot be cut), `Same` (the board is the one before the turn).
     pub fn finish(&self) -> Result<Position, TurnFault>
-        ensures { (p : Position) (before : List Step) → self.now ≡ state_of p before → result ≡ finish_answer p before }
+        ensures answer { (p : Position) (before : List Step) → self.now ≡ state_of p before → result ≡ finish_answer p before }
+        ensures turn { (p : Position) (steps : List Step) → self.now ≡ state_of p (reverse steps) → length steps ≤ 4
+            → (q : Position) → (result ≡ Ok q) ↔ IsTurnTo p steps q }
     {
         self.end()
     }
