@@ -81,7 +81,8 @@ fn any_results(rt: HostRuntime) -> Result<(), Fail> {
     // {Ra1 rb1 ca3}: the rabbit goes to a2 and is frozen there
     let start = position(&[(b'R', 0), (b'r', 1), (b'c', 16)], Color::Gold)?;
     let only = position(&[(b'R', 8), (b'r', 1), (b'c', 16)], Color::Silver)?;
-    assert!(rt; any_result(&start, &[start]));
-    assert!(rt; !any_result(&start, &[start, only]));
+    let (others, all) = ([start], [start, only]);
+    assert!(rt; any_result(&start, &others));
+    assert!(rt; !any_result(&start, &all));
     Ok(())
 }
