@@ -1,5 +1,5 @@
 -- Games: a history is the list of its positions, the present one last.
-use Rattle.std.specs.Prelude.{ℕ, Bool, List, [], ◌∷◌, Option, None, Some, nat_le, count_by, IsTrue}
+use Rattle.std.specs.Prelude.{ℕ, List, [], ◌∷◌, Option, None, Some, nat_le, count_by, IsTrue}
 use Rattle.std.specs.List.{filter}
 use Rattle.arimaa_board.specs.Piece.{other_color}
 use Rattle.arimaa_board.specs.declared.position.Position.{Position}

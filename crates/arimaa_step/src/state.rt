@@ -1,17 +1,18 @@
-//! What the steps so far leave open.
-ghost use Rattle.std.specs.Prelude.{◌≡◌, ◌↔◌, ◌≤◌, ◌<◌, ℕ, List, [], ◌∷◌, ◌++◌, length, reverse, IsTrue, IsOk, IfOk, Ok};
+//! The steps of a turn so far, and what may follow them.
+ghost use Rattle.std.specs.Prelude.{◌≡◌, ◌↔◌, ◌≤◌, ◌<◌, ℕ, List, [], ◌∷◌, ◌++◌, length, reverse, IsTrue, IsOk, IfOk, Ok, Err};
 ghost use Rattle.std.specs.Bool.{OnTrue};
 ghost use Rattle.std.specs.Prelude.{◌&&◌, ◌||◌, not};
 ghost use Rattle.arimaa_board.specs.declared.position.Position.{Position};
 ghost use Rattle.arimaa_board.specs.declared.position.Step.{Step};
 ghost use Rattle.arimaa_board.specs.Board.{settle};
 ghost use Rattle.arimaa_model.specs.Moves.{after, is_single, is_half};
-ghost use Rattle.arimaa_model.specs.Turns.{after_all, may_grow};
+ghost use Rattle.arimaa_model.specs.Turns.{after_all};
+ghost use Rattle.arimaa_model.specs.declared.fault.StepFault.TheVariants.{RabbitBack};
+ghost use Rattle.arimaa_model.specs.Relations.{GoesBack};
 ghost use Rattle.arimaa_model.specs.Faults.{rule_of};
 ghost use Rattle.arimaa_step.specs.State.{state_of, step_answer, finish_answer, left_if, trap_first};
 ghost use Rattle.arimaa_step.specs.Same.{same_fact, same_left, same_state};
-ghost use Rattle.arimaa_step.specs.Removal.{LeadsTo};
-ghost use Rattle.arimaa_step.specs.Future.{HaveOneFuture, IsTurnTo};
+ghost use Rattle.arimaa_step.specs.Future.{HaveOneFuture, IsTurnTo, LeadsTo, MayBegin};
 ghost use Rattle.arimaa_step.specs.Next.{could_push, completes_push, completes_pull, next_state, next_fault, next_answer, state_end};
 
 use arimaa_board::{Board, Piece, Position, Square, Step};
@@ -20,11 +21,16 @@ use arimaa_model::{
     removed, single,
 };
 
-/// What the steps of a turn so far have reached, and what may follow.
+/// The steps of a turn so far: the board that they reach, and what may follow.
+///
+/// The steps are not kept, nor how they are cut into moves. A state stands for every cutting at once.
 #[derive(Clone, Copy, Debug, PartialEq, Eq)]
 pub struct TurnState {
+    // the position before the turn
     pub(crate) start: Position,
+    // the board now
     pub(crate) board: Board,
+    // how many steps were made
     pub(crate) count: u8,
     // whether the steps can be cut into whole moves
     pub(crate) cut: bool,
@@ -34,10 +40,12 @@ pub struct TurnState {
     pub(crate) open_pull: Option<(Square, Piece)>,
 }
 
-/// A step that was made: the state after it, and the piece that it removed.
+/// A step that was made.
 #[derive(Clone, Copy, Debug, PartialEq, Eq)]
 pub struct StepDone {
+    /// The state after it.
     pub state: TurnState,
+    /// The trap on which a piece lost its last friend by this step, and the piece, which is taken off the board.
     pub removed: Option<(Square, Piece)>,
 }
 
@@ -122,7 +130,9 @@ impl TurnState {
             && same_left(self.open_pull, other.open_pull)
     }
 
-    // Whether a piece could push another before the last step.
+    // Whether the piece of a step could push another before the last step. On the start board this is looked up,
+    // since a trap of it may hold a piece without a friend; later the first half of a push never freezes or frees
+    // the pusher.
     fn could_push(&self, piece: Piece, step: &Step) -> bool
         ensures { result ≡ could_push self.now piece step.now }
     {
@@ -139,8 +149,8 @@ impl TurnState {
     {
         match self.open_push {
             None => false,
-            Some((square, piece)) => {
-                self.could_push(piece, step)
+            Some((square, pushed)) => {
+                self.could_push(pushed, step)
                     && can_step(&self.board, step)
                     && enters(square, step.from.step(step.dir))
             }
@@ -153,10 +163,10 @@ impl TurnState {
     {
         match self.open_pull {
             None => false,
-            Some((square, puller)) => {
+            Some((left, puller)) => {
                 beats(puller, step.piece)
                     && can_step(&self.board, step)
-                    && enters(square, step.from.step(step.dir))
+                    && enters(left, step.from.step(step.dir))
             }
         }
     }
@@ -204,7 +214,9 @@ impl TurnState {
     pub fn step(&self, step: Step) -> Result<StepDone, StepFault>
         ensures answer { (p : Position) (before : List Step) → self.now ≡ state_of p before → result ≡ step_answer p before step }
         ensures accepted { (p : Position) (steps : List Step) → self.now ≡ state_of p (reverse steps)
-            → IsOk result ↔ ((length steps < 4) × IsTrue (may_grow p.board p.side (steps ++ step ∷ []))) }
+            → IsOk result ↔ ((length steps < 4) × MayBegin p.board p.side (steps ++ step ∷ [])) }
+        ensures rabbit { (p : Position) (before : List Step) → self.now ≡ state_of p before
+            → result ≡ Err RabbitBack → (step.piece.color ≡ p.side) × GoesBack step }
 
         // A board that the start position left settled loses at most the piece that is named.
         ensures removed { (p : Position) (steps : List Step) → self.now ≡ state_of p (reverse steps) → settle p.board ≡ p.board
