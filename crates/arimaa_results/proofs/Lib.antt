@@ -1,0 +1,4 @@
+pub mod Given
+pub mod Beginning
+pub mod Reached
+pub mod Found
