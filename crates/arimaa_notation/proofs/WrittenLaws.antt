@@ -16,22 +16,25 @@ use Rattle.arimaa_board.specs.Piece.{letter_of, piece_of}
 use Rattle.arimaa_board.specs.Setup.{Lineup, IsLineup, squares_in, home_squares, first_home}
 use Rattle.arimaa_notation.specs.Written.{text_of_step, text_of_mark, text_of_entry, items_of_step, items_of_turn, items_of_entries, joined, with_item, text_of_turn}
 
-letter_small : (c : Color) (k : Kind) → letter_of (piece_of c k) < 128
-letter_small Gold Rabbit = omega arith
-letter_small Gold Cat = omega arith
-letter_small Gold Dog = omega arith
-letter_small Gold Horse = omega arith
-letter_small Gold Camel = omega arith
-letter_small Gold Elephant = omega arith
-letter_small Silver Rabbit = omega arith
-letter_small Silver Cat = omega arith
-letter_small Silver Dog = omega arith
-letter_small Silver Horse = omega arith
-letter_small Silver Camel = omega arith
-letter_small Silver Elephant = omega arith
+letter_within : (c : Color) (k : Kind) → (64 < letter_of (piece_of c k)) × (letter_of (piece_of c k) < 128)
+letter_within Gold Rabbit = (omega arith, omega arith)
+letter_within Gold Cat = (omega arith, omega arith)
+letter_within Gold Dog = (omega arith, omega arith)
+letter_within Gold Horse = (omega arith, omega arith)
+letter_within Gold Camel = (omega arith, omega arith)
+letter_within Gold Elephant = (omega arith, omega arith)
+letter_within Silver Rabbit = (omega arith, omega arith)
+letter_within Silver Cat = (omega arith, omega arith)
+letter_within Silver Dog = (omega arith, omega arith)
+letter_within Silver Horse = (omega arith, omega arith)
+letter_within Silver Camel = (omega arith, omega arith)
+letter_within Silver Elephant = (omega arith, omega arith)
 
 pub letter_ascii : (p : Piece) → letter_of p < 128
-letter_ascii p = letter_small p.color p.kind
+letter_ascii p = (letter_within p.color p.kind).1
+
+pub letter_seen : (p : Piece) → 32 < letter_of p
+letter_seen p = let above : 64 < letter_of p = (letter_within p.color p.kind).0 in omega arith
 
 -- one more byte of an item
 pub with_item-more : (t item old new : List ℕ) (i : ℕ) → i < length item → old ≡ with_item t (take i item) → new ≡ old ++ get_or item i 0 ∷ [] → new ≡ with_item t (take (i + 1) item)

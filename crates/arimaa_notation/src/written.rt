@@ -3,6 +3,7 @@ ghost use Rattle.std.specs.Prelude.{◌≡◌, ℕ, ◌+◌, ◌-◌, ◌<◌, �
 ghost use Rattle.std.specs.Str.{IsAscii};
 ghost use Rattle.arrayvec.specs.ArrayString.{array_string_len};
 ghost use Rattle.arimaa_notation.specs.Written.{column_of, row_of, letter_of_dir, text_of_step, text_of_mark, text_of_entry, text_of_turn, text_of_setup, items_of_step, with_item};
+ghost use Rattle.arimaa_notation.specs.Grammar.{IsOnBoard, IsTurnText, IsSetupText};
 
 use arimaa_board::{Dir, Noted, NotedStep, Piece, Setup, Square, Step};
 use arrayvec::ArrayString;
@@ -32,6 +33,7 @@ fn column(square: Square) -> u8
 fn row(square: Square) -> u8
     ensures value { result ≡ row_of square }
     ensures ascii { result < 128 }
+    ensures on_board { square < 64 }
 {
     b'1' + square.number() / 8
 }
@@ -40,6 +42,7 @@ fn row(square: Square) -> u8
 fn step_text(step: &Step) -> [u8; 4]
     ensures value { result ≡ text_of_step step.now }
     ensures ascii { IsAscii result }
+    ensures on_board { step.now.from < 64 }
 {
     [
         step.piece.letter(),
@@ -53,6 +56,7 @@ fn step_text(step: &Step) -> [u8; 4]
 fn mark_text(piece: Piece, square: Square) -> [u8; 4]
     ensures value { result ≡ text_of_mark (piece, square) }
     ensures ascii { IsAscii result }
+    ensures on_board { square < 64 }
 {
     [piece.letter(), column(square), row(square), b'x']
 }
@@ -61,6 +65,7 @@ fn mark_text(piece: Piece, square: Square) -> [u8; 4]
 fn entry_text(square: Square, piece: Piece) -> [u8; 3]
     ensures value { result ≡ text_of_entry (square, piece) }
     ensures ascii { IsAscii result }
+    ensures on_board { square < 64 }
 {
     [piece.letter(), column(square), row(square)]
 }
@@ -91,7 +96,8 @@ fn push_item<const CAP: usize>(text: &mut ArrayString<CAP>, item: &[u8])
 // Adds a step, and its mark where it has one.
 fn push_noted(text: &mut ArrayString<39>, noted: &NotedStep)
     requires { array_string_len text.old < 30 }
-    ensures { text.new.bytes ≡ fold with_item text.old.bytes (items_of_step noted.now) }
+    ensures items { text.new.bytes ≡ fold with_item text.old.bytes (items_of_step noted.now) }
+    ensures on_board { IsOnBoard noted.now }
 {
     push_item(text, &step_text(&noted.step));
     if let Some((piece, square)) = noted.mark {
@@ -106,6 +112,7 @@ fn push_noted(text: &mut ArrayString<39>, noted: &NotedStep)
 pub fn turn_text(turn: &Noted) -> ArrayString<39>
     requires { 0 < length turn.now }
     ensures text { result.bytes ≡ text_of_turn turn.now }
+    ensures reads_back { IsTurnText result.bytes turn.now }
 {
     let mut text = ArrayString::new();
     for noted in turn.steps() {
@@ -119,6 +126,7 @@ pub fn turn_text(turn: &Noted) -> ArrayString<39>
 /// An entry is letter and square, as `Ra1`. So a setup has 63 bytes.
 pub fn setup_text(setup: &Setup) -> ArrayString<63>
     ensures text { result.bytes ≡ text_of_setup setup.now }
+    ensures reads_back { IsSetupText result.bytes setup.now.color setup.now }
 {
     let mut text = ArrayString::new();
     for (square, piece) in setup.pairs() {
