@@ -1,11 +1,11 @@
 -- The items of turns: their fronts, and that no two turns have the same.
-use Rattle.std.proofs.Common.{◌≡◌, ℕ, zero, suc, ◌+◌, ◌-◌, ◌<◌, ◌≤◌, List, [], ◌∷◌, ◌++◌, length, take, refl, sym, ◌∙◌, ap, arith, Option, None, Some}
+use Rattle.std.proofs.Common.{◌≡◌, ℕ, zero, suc, ◌<◌, List, [], ◌∷◌, ◌++◌, take, refl, sym, ap, Option, None, Some}
 use Rattle.std.specs.Prelude.{IfSome}
 use Rattle.std.specs.List.{AllByRecursion}
 use Rattle.arimaa_board.specs.declared.piece.Piece.{Piece}
 use Rattle.arimaa_board.specs.declared.position.Step.{Step}
 use Rattle.arimaa_board.specs.declared.turn.NotedStep.{NotedStep}
-use Rattle.arimaa_notation.specs.Written.{text_of_step, text_of_mark, items_of_step, items_of_mark, items_of_turn}
+use Rattle.arimaa_notation.specs.Written.{text_of_step, text_of_mark, items_of_mark, items_of_turn}
 use Rattle.arimaa_notation.specs.Grammar.{IsOnBoard, AreSteps}
 use Rattle.arimaa_notation.proofs.LetterLaws.{same_step, same_mark, step_no_mark}
 

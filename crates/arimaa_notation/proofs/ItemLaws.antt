@@ -1,14 +1,13 @@
 -- How a text falls into items.
-use Rattle.std.proofs.Common.{◌≡◌, ℕ, zero, suc, ◌+◌, ◌-◌, ◌<◌, ◌≤◌, List, [], ◌∷◌, ◌++◌, length, take, drop, get_or, map, refl, sym, ◌∙◌, ap, subst, arith, append_assoc, length-drop, length-take-le, length-append, take-append-drop, cond, Bool, true, false, not, true≢false, ⊎_elim}
+use Rattle.std.proofs.Common.{◌≡◌, ℕ, ◌+◌, ◌<◌, ◌≤◌, List, [], ◌∷◌, ◌++◌, length, take, drop, get_or, refl, sym, ◌∙◌, ap, subst, arith, length-drop, length-take-le, length-append, take-append-drop, Bool, true, false, not, true≢false, ⊎_elim}
 use Rattle.std.specs.Prelude.{filter, All, ◌==◌}
-use Rattle.std.specs.List.{flat_map, slice_split, prefix_len, position_or_len, AllByRecursion}
+use Rattle.std.specs.List.{slice_split, prefix_len, position_or_len}
 use Rattle.std.proofs.lemmas.Bool.{cases_lt}
 use Rattle.std.proofs.lemmas.List.{append-nil, get_or-drop, get_or-take, get_or_past}
 use Rattle.std.proofs.lemmas.List.Elements.{All-tail, All-from_get_or}
 use Rattle.std.proofs.lemmas.List.Splits.{slice_split-cons_yes, slice_split_none, slice_split_at}
 use Rattle.std.proofs.lemmas.List.Sums.{prefix_len-le-length, prefix_len_passes, prefix_len_stops, fails_before_first, passes_at_first}
 use Rattle.arimaa_notation.specs.Items.{is_blank, is_filled, items_of, IsFirstItem}
-use Rattle.arimaa_notation.specs.Written.{joined}
 
 -- a blank at the front is passed over
 pub items-blank : (b : ℕ) (bs : List ℕ) → is_blank b ≡ true → items_of (b ∷ bs) ≡ items_of bs

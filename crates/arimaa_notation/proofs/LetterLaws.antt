@@ -1,6 +1,6 @@
 -- Letters, and that no two steps, marks or entries are spelled alike.
-use Rattle.std.proofs.Common.{◌≡◌, ℕ, ◌+◌, ◌<◌, List, [], ◌∷◌, Option, None, Some, Bool, true, false, cond, refl, sym, ◌∙◌, ap, arith, eqb-true, get_or}
-use Rattle.std.specs.Prelude.{◌==◌, IfSome, IfNone}
+use Rattle.std.proofs.Common.{◌≡◌, ℕ, List, [], ◌∷◌, None, Some, true, false, cond, refl, sym, ◌∙◌, ap, arith, eqb-true, get_or}
+use Rattle.std.specs.Prelude.{◌==◌, IfSome}
 use Rattle.std.specs.List.{find}
 use Rattle.arimaa_board.specs.declared.piece.Piece.{Piece}
 use Rattle.arimaa_board.specs.declared.position.Step.{Step}

@@ -1,10 +1,8 @@
 -- What is written is read back.
-use Rattle.std.proofs.Common.{◌≡◌, ℕ, zero, suc, ◌+◌, ◌<◌, ◌≤◌, List, [], ◌∷◌, ◌++◌, length, take, get_or, refl, sym, ◌∙◌, ap, subst, arith, take_all, Option, None, Some, true, false, Bool}
-use Rattle.std.specs.Prelude.{◌==◌, ◌||◌, All}
-use Rattle.std.specs.List.{AllByRecursion, flat_map}
-use Rattle.std.specs.List.Sorted.{IsPermutation}
+use Rattle.std.proofs.Common.{◌≡◌, ℕ, ◌+◌, ◌<◌, ◌≤◌, List, [], ◌∷◌, ◌++◌, length, take, get_or, refl, ◌∙◌, ap, subst, arith, Option, None, Some, false}
+use Rattle.std.specs.Prelude.{All}
+use Rattle.std.specs.List.{AllByRecursion}
 use Rattle.std.proofs.lemmas.Bool.Decides.{nat_tests}
-use Rattle.std.proofs.lemmas.List.{append-nil}
 use Rattle.std.proofs.lemmas.List.Elements.{All-from_recursion, recursion_from_All, All-more}
 use Rattle.std.proofs.lemmas.List.Sorted.{IsPermutation-refl}
 use Rattle.arimaa_board.specs.declared.piece.Piece.{Piece}
@@ -15,7 +13,7 @@ use Rattle.arimaa_board.specs.declared.turn.NotedStep.{NotedStep}
 use Rattle.arimaa_board.specs.Setup.{Lineup, IsLineup}
 use Rattle.arimaa_notation.specs.Items.{is_blank, items_of}
 use Rattle.arimaa_notation.specs.Written.{letter_of_dir, text_of_step, text_of_mark, text_of_entry, items_of_mark, items_of_turn, items_of_entries, joined, text_of_turn, text_of_setup}
-use Rattle.arimaa_notation.specs.Grammar.{IsOnBoard, AreSteps, AreEntries, IsTurnText, IsSetupText}
+use Rattle.arimaa_notation.specs.Grammar.{IsOnBoard, IsTurnText, IsSetupText}
 use Rattle.arimaa_notation.proofs.WrittenLaws.{letter_seen}
 use Rattle.arimaa_notation.proofs.ItemLaws.{items-item, items-blank, no_items}
 

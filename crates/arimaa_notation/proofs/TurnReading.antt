@@ -1,7 +1,7 @@
 -- Reading a turn: what holds in its midst, and that a text has one reading.
 use Rattle.std.proofs.Common.{◌≡◌, ℕ, zero, suc, ◌+◌, ◌-◌, ◌<◌, ◌≤◌, List, [], ◌∷◌, ◌++◌, length, take, refl, sym, ◌∙◌, ap, subst, arith, append_assoc, length-append, Option, None, Some, inl, inr, ⊎_elim, Result, Ok, Err}
 use Rattle.std.specs.Prelude.{IfSome, IfNone}
-use Rattle.std.specs.List.{AllByRecursion, flat_map}
+use Rattle.std.specs.List.{AllByRecursion}
 use Rattle.std.proofs.lemmas.Bool.{cases_lt}
 use Rattle.std.proofs.lemmas.List.{append-nil}
 use Rattle.std.proofs.lemmas.Grind.{flat_map-append}
@@ -12,7 +12,7 @@ use Rattle.arimaa_notation.specs.declared.fault.NoteFault.{NoteFault}
 use Rattle.arimaa_notation.specs.declared.fault.NoteFault.TheVariants.{Token, Steps, Setup}
 use Rattle.arimaa_notation.specs.Items.{items_of}
 use Rattle.arimaa_notation.specs.Written.{text_of_step, text_of_mark, items_of_mark, items_of_step, items_of_turn}
-use Rattle.arimaa_notation.specs.Grammar.{IsOnBoard, AreSteps, IsFirstBadItem, IsNamedItem, AreTooManySteps, IsTurnReading}
+use Rattle.arimaa_notation.specs.Grammar.{IsOnBoard, AreSteps, IsFirstBadItem, IsNamedItem, IsTurnReading}
 use Rattle.arimaa_notation.proofs.GrammarLaws.{EndsUnmarked, ends_push, not_steps, front_of_turn, same_turn}
 
 -- these steps have been read, and this text is left

@@ -15,3 +15,6 @@ pub use laws::{setups_apart, turns_apart};
 pub use setup::read_setup;
 pub use turn::read_turn;
 pub use written::{setup_text, turn_text};
+
+#[cfg(test)]
+mod tests;

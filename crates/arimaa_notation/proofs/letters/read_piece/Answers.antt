@@ -1,9 +1,8 @@
-use Rattle.std.proofs.Common.{◌≡◌, ◌∙◌, sym, None, Some, Option, subst, ℕ}
+use Rattle.std.proofs.Common.{◌≡◌, sym, None, Some, Option, subst, ℕ}
 use Rattle.std.specs.Prelude.{IfSome, IfNone}
 use Rattle.arimaa_board.specs.declared.piece.Piece.{Piece}
 use Rattle.arimaa_board.specs.Piece.{letter_of, piece_of_letter}
 use Rattle.arimaa_notation.proofs.LetterLaws.{letter_some, letter_none}
-use Rattle.arimaa_notation.proofs.GrammarLaws.{same_turn}
 use Rattle.arimaa_notation.proofs.letters.read_piece.Goals as goal
 
 pub returns-clause-some : goal.returns-clause-some

@@ -1,4 +1,4 @@
-use Rattle.std.proofs.Common.{◌≡◌, length, take, arith, sym, ◌∙◌, eqb-true, take_all, [], ◌∷◌}
+use Rattle.std.proofs.Common.{◌≡◌, length, arith, sym, ◌∙◌, eqb-true, take_all}
 use Rattle.std.proofs.lemmas.List.{take-append-le}
 use Rattle.arimaa_notation.proofs.turn.keep.Goals as goal
 

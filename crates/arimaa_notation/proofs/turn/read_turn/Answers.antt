@@ -1,4 +1,4 @@
-use Rattle.std.proofs.Common.{◌≡◌, List, Ok, Err, Result, subst, sym, ℕ}
+use Rattle.std.proofs.Common.{◌≡◌, List, Ok, Err, Result, subst, ℕ}
 use Rattle.std.specs.Prelude.{◌↔◌}
 use Rattle.arimaa_board.specs.declared.turn.NotedStep.{NotedStep}
 use Rattle.arimaa_notation.specs.declared.fault.NoteFault.{NoteFault}

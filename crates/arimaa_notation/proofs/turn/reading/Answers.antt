@@ -1,7 +1,6 @@
-use Rattle.std.proofs.Common.{◌≡◌, ◌+◌, ◌++◌, [], ◌∷◌, List, ℕ, ap, subst, sym}
+use Rattle.std.proofs.Common.{◌+◌, ◌++◌, [], ◌∷◌, ℕ, subst, sym}
 use Rattle.arimaa_board.specs.declared.turn.NotedStep.{NotedStep}
 use Rattle.arimaa_notation.specs.Items.{items_of}
-use Rattle.arimaa_notation.specs.Written.{items_of_mark}
 use Rattle.arimaa_notation.proofs.TurnReading.{Midst, midst-fault, midst-more}
 use Rattle.arimaa_notation.proofs.turn.reading.Goals as goal
 

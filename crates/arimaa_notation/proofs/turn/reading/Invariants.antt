@@ -1,4 +1,4 @@
-use Rattle.std.proofs.Common.{◌≡◌, ℕ, ◌+◌, ◌≤◌, ◌<◌, List, ◌++◌, length, take}
+use Rattle.std.proofs.Common.{List, length}
 use Rattle.arimaa_board.specs.declared.turn.NotedStep.{NotedStep}
 use Rattle.arimaa_notation.proofs.TurnReading.{Midst}
 use Rattle.arimaa_notation.proofs.turn.reading.Given as goal

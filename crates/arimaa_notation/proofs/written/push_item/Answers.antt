@@ -1,4 +1,4 @@
-use Rattle.std.proofs.Common.{◌≡◌, ◌+◌, ◌≤◌, [], ◌∷◌, length, arith, sym, ◌∙◌, ap, take_all, length-append, get_or}
+use Rattle.std.proofs.Common.{[], ◌∷◌, length, arith, ◌∙◌, ap, take_all, length-append, get_or}
 use Rattle.arimaa_notation.specs.Written.{with_item}
 use Rattle.arimaa_notation.proofs.WrittenLaws.{with_item-more, with_item-spaced, with_item-first}
 use Rattle.arimaa_notation.proofs.written.push_item.Goals as goal

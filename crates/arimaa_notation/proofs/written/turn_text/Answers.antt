@@ -1,4 +1,4 @@
-use Rattle.std.proofs.Common.{◌≡◌, ◌+◌, ◌*◌, ◌-◌, ◌≤◌, [], ◌∷◌, ◌++◌, length, take, arith, sym, ◌∙◌, ap, subst, take_all, List}
+use Rattle.std.proofs.Common.{◌≡◌, ◌+◌, [], ◌∷◌, ◌++◌, length, take, arith, sym, ◌∙◌, ap, subst, take_all, List}
 use Rattle.std.specs.List.{AllByRecursion}
 use Rattle.arimaa_board.specs.declared.turn.NotedStep.{NotedStep}
 use Rattle.std.proofs.lemmas.List.{take_more}
