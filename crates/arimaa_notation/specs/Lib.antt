@@ -1,0 +1,4 @@
+pub mod Items
+pub mod Written
+pub mod Grammar
+pub mod Laws

@@ -1,0 +1,20 @@
+//! Turns and setups of Arimaa as game records write them.
+#![tactic(auto)]
+
+mod fault;
+mod items;
+mod laws;
+mod letters;
+mod setup;
+mod turn;
+mod written;
+
+pub use fault::NoteFault;
+pub use items::first_item;
+pub use laws::{setups_apart, turns_apart};
+pub use setup::read_setup;
+pub use turn::read_turn;
+pub use written::{setup_text, turn_text};
+
+#[cfg(test)]
+mod tests;
