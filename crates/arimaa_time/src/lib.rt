@@ -2,5 +2,11 @@
 #![tactic(auto)]
 
 mod control;
+mod fault;
+mod fields;
+mod read;
+mod spans;
+mod units;
 
 pub use control::{Control, GameLimit};
+pub use fault::ControlFault;
