@@ -37,15 +37,16 @@ cut_of-at byte front back lacks =
     let longer : length text ≡ n + suc (length back) = length-append front (byte ∷ back) in
     let here : eqb (get_or text n 0) byte ≡ true = eq-eqb (get_or text n 0) byte (get_or_at front byte back 0 n refl) in
     let found : first byte text ≡ n = position_or_len_is (λ b. eqb b byte) text n 0 (omega arith)
-        (λ k below. ap (λ b. eqb b byte) (get_or_append_left front (byte ∷ back) 0 k below) ∙ lacks k 0 below) (λ h. here) in
+    (λ k below. ap (λ b. eqb b byte) (get_or_append_left front (byte ∷ back) 0 k below) ∙ lacks k 0 below) (λ h. here) in
     let rest : drop (n + 1) text ≡ back = sym (drop-drop 1 n text) ∙ ap (drop 1) (drop_at front (byte ∷ back) n refl) in
     cut_of-first byte text n found (omega arith) ∙ ap (λ l. Some (l, drop (n + 1) text)) (take_at front (byte ∷ back) n refl) ∙ ap (λ r. Some (front, r)) rest
 
 pub Lacks-none : (byte : ℕ) (text : List ℕ) → cut_of byte text ≡ None → Lacks byte text
 Lacks-none byte text e =
     let past : length text ≤ first byte text = elim (cases_lt (first byte text) (length text)) [
-        inl within ↦ absurd (none-some _ (sym e ∙ cut_of-first byte text (first byte text) refl within))
-      | inr past ↦ past ] in
+      | inl within ↦ absurd (none-some _ (sym e ∙ cut_of-first byte text (first byte text) refl within))
+      | inr past ↦ past
+    ] in
     λ k d within. fails_before_first (λ b. eqb b byte) text k d (omega arith)
 
 -- the two halves of a cut
@@ -59,8 +60,9 @@ halves byte text within =
     record {
       joined = split_at_first (λ b. eqb b byte) text 0 within ∙ ap (λ b. before_first (λ b. eqb b byte) text ++ (b ∷ after_first (λ b. eqb b byte) text)) here;
       lacks = λ k d below.
-        let inside : k < first byte text = omega (arith, length-take (first byte text) text) in
-        ap (λ b. eqb b byte) (get_or-take (first byte text) text k d inside) ∙ fails_before_first (λ b. eqb b byte) text k d inside }
+          let inside : k < first byte text = omega (arith, length-take (first byte text) text) in
+          ap (λ b. eqb b byte) (get_or-take (first byte text) text k d inside) ∙ fails_before_first (λ b. eqb b byte) text k d inside;
+    }
 
 pub Halves-cut : (byte : ℕ) (text front back : List ℕ) → cut_of byte text ≡ Some (front, back) → Halves byte text front back
 unfolding cut_of

@@ -1,2 +1,4 @@
+pub mod Controls
 pub mod Cutting
 pub mod Numbers
+pub mod Readings

@@ -54,5 +54,5 @@ pub record IsFirstBad (texts : List (List ℕ)) (k : ℕ) : Type 0 where
   pub earlier : (j : ℕ) → 0 < j → j < k → IsSomeAnd (field texts j) (λ text. IsGood j text)
 
 -- the fault that names the first bad field of a text
-abbrev pub NamesFirstBad : List ℕ → ControlFault → Type 0
-NamesFirstBad text (Field k) = IsFirstBad (fields text) k
+abbrev pub NamesFirstBad : List (List ℕ) → ControlFault → Type 0
+NamesFirstBad texts (Field k) = IsFirstBad texts k

@@ -10,3 +10,4 @@ mod units;
 
 pub use control::{Control, GameLimit};
 pub use fault::ControlFault;
+pub use read::read_control;
