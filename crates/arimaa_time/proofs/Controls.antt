@@ -1,6 +1,6 @@
 -- The reader of a whole text decides the grammar, and names the first bad field.
-use Rattle.std.proofs.Common.{◌≡◌, ◌≢◌, ℕ, ◌+◌, ◌-◌, ◌<◌, ◌≤◌, ◌⊎◌, inl, inr, Bool, true, false, ltb, cond, List, [], ◌∷◌, length, get_or, slice_get, Option, Some, None, IfSome, IsSomeAnd, Result, Ok, Err, ok_or, IfOk, IfErr, refl, sym, ap, ◌∙◌, subst, arith, lit<, lit≤}
-use Rattle.std.proofs.lemmas.Bool.{ltb-true, ltb-false, le-ltb, lt-ltb, cond-true, cond-false, cases_lt}
+use Rattle.std.proofs.Common.{◌≡◌, ◌≢◌, ℕ, ◌+◌, ◌-◌, ◌<◌, ◌≤◌, inl, inr, Bool, true, false, ltb, cond, List, [], ◌∷◌, length, get_or, slice_get, Option, Some, None, IfSome, IsSomeAnd, Result, Ok, Err, ok_or, IfOk, IfErr, refl, sym, ap, ◌∙◌, subst, arith, lit<, lit≤}
+use Rattle.std.proofs.lemmas.Bool.{ltb-true, ltb-false, le-ltb, cases_lt}
 use Rattle.std.proofs.lemmas.Option.{none-some, slice_get-get_or, slice_get_within}
 use Rattle.arimaa_time.specs.declared.control.Control.{Control}
 use Rattle.arimaa_time.specs.declared.control.GameLimit.{GameLimit}
@@ -8,7 +8,7 @@ use Rattle.arimaa_time.specs.declared.control.GameLimit.TheVariants as limits
 use Rattle.arimaa_time.specs.declared.fault.ControlFault.{ControlFault}
 use Rattle.arimaa_time.specs.declared.fault.ControlFault.TheVariants.{Field}
 use Rattle.arimaa_time.specs.Grammar.{IsTime, IsPercent, IsGame}
-use Rattle.arimaa_time.specs.Fields.{fields, field, Gives, AreFields, IsControl, IsGood, IsFirstBad, NamesFirstBad}
+use Rattle.arimaa_time.specs.Fields.{fields, field, Gives, AreFields, IsControl, IsGood, NamesFirstBad}
 use Rattle.arimaa_time.specs.Reading.{time_of, percent_of, game_of, field_of, control_of, ◌>>=◌}
 use Rattle.arimaa_time.proofs.Cutting.{fields-length}
 use Rattle.arimaa_time.proofs.Readings.{time_of-sound, time_of-complete, percent_of-sound, percent_of-complete, game_of-sound, game_of-complete}

@@ -1,11 +1,11 @@
 -- The reader's functions decide the grammar: what they answer stands in it, and what stands in it they answer.
-use Rattle.std.proofs.Common.{◌≡◌, ◌≢◌, ℕ, ◌+◌, ◌*◌, ◌<◌, ◌≤◌, ◌⊎◌, inl, inr, Bool, true, false, ◌&&◌, not, eqb, leb, ltb, cond, List, [], ◌∷◌, ◌++◌, length, get_or, Option, Some, None, option_map, refl, sym, ap, ◌∙◌, subst, arith, lit<, append_assoc}
+use Rattle.std.proofs.Common.{◌≡◌, ◌≢◌, ℕ, ◌+◌, ◌*◌, ◌<◌, ◌⊎◌, inl, inr, Bool, true, false, ◌&&◌, not, eqb, leb, ltb, cond, List, [], ◌∷◌, ◌++◌, length, get_or, Option, Some, None, option_map, refl, sym, ap, ◌∙◌, subst, arith, lit<, append_assoc}
 use Rattle.std.specs.Option.{option_or, option_and_then}
-use Rattle.std.specs.List.{All, list_all}
-use Rattle.std.specs.Char.{is_ascii_digit, digit_value}
+use Rattle.std.specs.List.{list_all}
+use Rattle.std.specs.Char.{is_ascii_digit}
 use Rattle.std.specs.Int.{IsInRange}
 use Rattle.std.specs.Str.Parse.{AllDigits, digits_value}
-use Rattle.std.proofs.lemmas.Bool.{and_parts, and_from, eqb-true, eqb-false, ne_eqb, eq-eqb, le-leb, leb-true, lt-ltb, ltb-true, cond-true, cond-false, false≢true}
+use Rattle.std.proofs.lemmas.Bool.{and_parts, and_from, eqb-true, eqb-false, ne_eqb, eq-eqb, le-leb, leb-true, lt-ltb, ltb-true, cond-true}
 use Rattle.std.proofs.lemmas.Bool.Decides.{nat_tests}
 use Rattle.std.proofs.lemmas.Option.{cond_some, same_Some, none-some, option_and_then_some}
 use Rattle.std.proofs.lemmas.List.{nil_from_length, get_or_at, length-append}
@@ -15,10 +15,10 @@ use Rattle.arimaa_time.specs.declared.units.TimeUnit.{TimeUnit}
 use Rattle.arimaa_time.specs.declared.control.GameLimit.{GameLimit}
 use Rattle.arimaa_time.specs.declared.units.TimeUnit.TheVariants.{Day, Hour, Minute, Second}
 use Rattle.arimaa_time.specs.TimeUnit.{letter_of, milliseconds_of, units_of_time, units_of_game}
-use Rattle.arimaa_time.specs.Grammar.{IsNumber, IsMarked, IsPart, IsSequence, AreParts, IsClock, IsSpan, bare, clock, parts, IsTime, IsPercent, IsGame, turns, time, turns_limit, time_limit}
+use Rattle.arimaa_time.specs.Grammar.{IsNumber, IsMarked, IsPart, AreParts, IsClock, IsSpan, bare, clock, parts, IsTime, IsPercent, IsGame, turns, time, turns_limit, time_limit}
 use Rattle.arimaa_time.specs.Reading.{cut_of, is_number, number_of, part_or_whole, part_at, part_of, parts_of, clock_of, span_of, time_of, percent_of, marked_of, game_of}
 use Rattle.arimaa_time.proofs.Numbers.{is_number-parts}
-use Rattle.arimaa_time.proofs.Cutting.{Lacks, Halves, Halves-cut, cut_of-at, cut_of-none}
+use Rattle.arimaa_time.proofs.Cutting.{Lacks, Halves-cut, cut_of-at, cut_of-none}
 
 -- Options
 
@@ -72,13 +72,13 @@ Lacks-at byte front back lacks =
     let here : get_or (front ++ byte ∷ back) (length front) 0 ≡ byte = get_or_at front byte back 0 (length front) refl in
     eqb-false _ _ (lacks (length front) 0 (omega (arith, length-append front (byte ∷ back)))) here
 
-Lacks-append : (byte : ℕ) (front back : List ℕ) → Lacks byte front → Lacks byte back → Lacks byte (front ++ back)
+pub Lacks-append : (byte : ℕ) (front back : List ℕ) → Lacks byte front → Lacks byte back → Lacks byte (front ++ back)
 Lacks-append byte front back = All-append (λ b. eqb b byte ≡ false) front back
 
 Lacks-one : (byte c : ℕ) → eqb c byte ≡ false → Lacks byte (c ∷ [])
 Lacks-one byte c e = All-cons (λ b. eqb b byte ≡ false) c [] e (All-nil (λ b. eqb b byte ≡ false))
 
-IsNumber-Lacks : (byte : ℕ) (text : List ℕ) (n : ℕ) → 57 < byte → IsNumber text n → Lacks byte text
+pub IsNumber-Lacks : (byte : ℕ) (text : List ℕ) (n : ℕ) → 57 < byte → IsNumber text n → Lacks byte text
 IsNumber-Lacks byte text n above h = AllDigits-Lacks byte text (λ inside. omega (arith, inside.1)) h.digits
 
 number_of-other : (byte : ℕ) (front back : List ℕ) → 57 < byte → number_of (front ++ byte ∷ back) ≡ None

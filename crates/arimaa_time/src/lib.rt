@@ -7,7 +7,9 @@ mod fields;
 mod read;
 mod spans;
 mod units;
+mod write;
 
 pub use control::{Control, GameLimit};
 pub use fault::ControlFault;
 pub use read::read_control;
+pub use write::control_text;

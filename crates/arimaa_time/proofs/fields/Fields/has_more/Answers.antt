@@ -1,4 +1,3 @@
-use Rattle.std.proofs.Common.{sym, ◌∙◌}
 use Rattle.arimaa_time.proofs.Cutting.{fields_left-length}
 use Rattle.arimaa_time.proofs.fields.Fields.has_more.Goals as goal
 
