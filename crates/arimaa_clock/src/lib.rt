@@ -2,5 +2,7 @@
 #![tactic(auto)]
 
 mod account;
+#[cfg(test)]
+mod tests;
 
 pub use account::{Account, Spend};

@@ -6,6 +6,8 @@ mod fault;
 mod fields;
 mod read;
 mod spans;
+#[cfg(test)]
+mod tests;
 mod units;
 mod write;
 
