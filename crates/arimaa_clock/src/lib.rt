@@ -1,4 +1,4 @@
-//! The clock of one side: its reserve of time, turn after turn.
+//! The clock of one side: its reserve of time, turn after turn. No call takes memory.
 #![tactic(auto)]
 
 mod account;

@@ -4,7 +4,7 @@ ghost use Rattle.std.specs.Prelude.{◌≡◌, ◌<◌, ◌↔◌, List, ℕ, Is
 use crate::spans::split_once;
 use std::marker::Model;
 
-/// The fields of a text that are not read yet, of which slashes stand between.
+/// The fields of a text that are not read yet. Slashes stand between them.
 #[derive(Drop)]
 pub struct Fields<'a> {
     left: Option<&'a [u8]>,

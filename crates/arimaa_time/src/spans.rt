@@ -14,7 +14,7 @@ fn place_of(text: &[u8], byte: u8) -> Option<usize>
     text.iter().position(|b| *b == byte)
 }
 
-// The texts before and after the first such byte.
+/// The texts before and after the first such byte.
 #[tactic(auto, unfolding(crate::specs::Reading::cut_of))]
 pub fn split_once(text: &[u8], byte: u8) -> Option<(&[u8], &[u8])>
     ensures { MatchOption result (cut_of byte text.now ≡ None)
@@ -45,7 +45,7 @@ fn value(digits: &[u8]) -> u32
     n
 }
 
-// A number of one to six digits. Zeros may stand in front.
+/// A number of one to six digits. Zeros may stand in front.
 #[tactic(auto, unfolding(crate::specs::Reading::number_of, crate::specs::Reading::is_number))]
 pub fn number(text: &[u8]) -> Option<u32>
     ensures value { result ≡ number_of text.now }
@@ -58,7 +58,7 @@ pub fn number(text: &[u8]) -> Option<u32>
     }
 }
 
-// A number and this letter, and no more.
+/// A number and this letter, and no more.
 #[tactic(auto, unfolding(crate::specs::Reading::marked_of))]
 pub fn marked(text: &[u8], letter: u8) -> Option<u32>
     ensures { result ≡ marked_of letter text.now }
@@ -115,8 +115,8 @@ fn clock(text: &[u8]) -> Option<u32>
     (part_text.len() == 2 && part < 60).then_some(60 * whole + part)
 }
 
-// A length of time in milliseconds: a bare number, a clock's reading, or one part or more in these units. A bare number
-// counts sixty times `sixtieth`.
+/// A length of time in milliseconds: a bare number, a clock's reading, or one part or more in these units. A bare number
+/// counts sixty times `sixtieth`.
 #[tactic(auto, unfolding(crate::specs::Reading::span_of))]
 pub fn span(text: &[u8], sixtieth: u64, units: &[TimeUnit]) -> Option<u64>
     requires fine { sixtieth ≤ 60000 }
