@@ -1,4 +1,11 @@
 //! A region of memory that is taken once, and used as a stack of positions in segments.
 #![tactic(auto)]
 
+mod finding;
+mod hash;
 mod index;
+mod placed;
+mod region;
+
+pub use placed::Placed;
+pub use region::{Mark, Region};
