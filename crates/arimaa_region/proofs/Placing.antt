@@ -29,6 +29,8 @@ pub record IsAnswer (old : Held) (p : Position) (result : Placed) (new : Held) :
   pub new_place : IfNew result (λ n. n ≡ length (live_of old.segments))
   pub after : new ≡ (if is_full result then old else with_placed old p)
   pub distinct : IsDistinct (top new.segments)
+  pub below : below_top new.segments ≡ below_top old.segments
+  pub open_count : length new.segments ≡ length old.segments
 
 get_or-between : (places : List Position) (from end k : ℕ) (p : Position) → from + k < end → get_or (between places from end) k p ≡ get_or places (from + k) p
 get_or-between places from end k p inside = get_or-drop from (take end places) k p ∙ get_or-take end places (from + k) p inside
@@ -67,6 +69,8 @@ answer_there {room} {m} {places} {index} {starts} p n low high at s =
       new_place = tt;
       after = λ i. record { room = room; segments = sym (with_new-there xs p contained) i ∷ cut places starts m first };
       distinct = All-head IsDistinct xs (cut places starts m first) s.distinct;
+      below = refl;
+      open_count = refl;
     }
 
 pub answer_full : {room m : ℕ} {places : List Position} {index : Indexed} {starts : List ℕ} (p : Position) → IsNowhere places (get_or starts m 0) (length index.buckets) p → length index.buckets ≡ room → IsSound room (suc m) places index starts → IsAnswer (held room (suc m) places (length index.buckets) starts) p Full (held room (suc m) places (length index.buckets) starts)
@@ -82,6 +86,8 @@ answer_full {room} {m} {places} {index} {starts} p nowhere none_left s =
       new_place = tt;
       after = refl;
       distinct = All-head IsDistinct xs (cut places starts m first) s.distinct;
+      below = refl;
+      open_count = refl;
     }
 
 pub answer_new : {room m : ℕ} {places : List Position} {index : Indexed} {starts : List ℕ} (p : Position) → IsNowhere places (get_or starts m 0) (length index.buckets) p → length index.buckets < room → IsSound room (suc m) places index starts → IsAnswer (held room (suc m) places (length index.buckets) starts) p (New (length index.buckets)) (held room (suc m) (set places (length index.buckets) p) (length index.buckets + 1) starts)
@@ -99,4 +105,6 @@ answer_new {room} {m} {places} {index} {starts} p nowhere free s =
       new_place = sym (live_count s);
       after = λ i. record { room = room; segments = extended i };
       distinct = subst (λ (zs : List (List Position)). IsDistinct (top zs)) (sym pushed) (all_pairs_push (λ (x y : Position). x ≢ y) xs p (All-head IsDistinct xs (cut places starts m first) s.distinct) (λ k d within e. absent (k, within, get_or_default xs k p d within ∙ e)));
+      below = ap below_top pushed;
+      open_count = ap length pushed;
     }

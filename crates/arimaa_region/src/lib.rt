@@ -6,6 +6,8 @@ mod hash;
 mod index;
 mod placed;
 mod region;
+#[cfg(test)]
+mod tests;
 
 pub use placed::Placed;
 pub use region::{Mark, Region};

@@ -113,6 +113,8 @@ impl Region {
         ensures new_place { IfNew result (λ n. n ≡ length (live_of self.old.segments)) }
         ensures after { self.new ≡ (if is_full result then self.old else with_placed self.old position) }
         ensures distinct { IsDistinct (top self.new.segments) }
+        ensures below { below_top self.new.segments ≡ below_top self.old.segments }
+        ensures open { length self.new.segments ≡ length self.old.segments }
     {
         let first = self.starts[self.open_segments as usize - 1];
         let bucket = bucket(&position, self.room);

@@ -24,7 +24,7 @@ returns-in-Some c =
     let found = c.in-Some.ensures.found in
     let at : get_or r.places.items n p ≡ p = rw (← c.as_slice.ensures.value) found.2 in
     let a : IsAnswer c.args.self.now p (There n) c.args.self.now = subst Answer c.self.view_is (subst At (sym one_more) (answer_there p n found.0 found.1 at (subst Sound one_more c.self.invariant))) in
-    record { there = a.there; full = a.full; its_place = a.its_place; new_place = a.new_place; after = a.after; distinct = a.distinct }
+    record { there = a.there; full = a.full; its_place = a.its_place; new_place = a.new_place; after = a.after; distinct = a.distinct; below = a.below; «open» = a.open_count }
 
 pub returns-then-place-self : goal.returns-then-place-self
 returns-then-place-self c =
@@ -39,7 +39,7 @@ returns-then-place-self c =
     let nowhere : IsNowhere r.places.items (get_or r.starts (r.open_segments - 1) 0) live p = rw (← c.as_slice.ensures.value) c.in_default.ensures.absent in
     let none_left : live ≡ r.room = sym c.len-place.ensures.count ∙ c.if-place-self.true in
     let a : IsAnswer c.args.self.now p Full c.args.self.now = subst Answer c.self.view_is (subst At (sym one_more) (answer_full p nowhere none_left (subst Sound one_more c.self.invariant))) in
-    record { there = a.there; full = a.full; its_place = a.its_place; new_place = a.new_place; after = a.after; distinct = a.distinct }
+    record { there = a.there; full = a.full; its_place = a.its_place; new_place = a.new_place; after = a.after; distinct = a.distinct; below = a.below; «open» = a.open_count }
 
 pub invariant_of-self : goal.invariant_of-self
 invariant_of-self c =
@@ -71,4 +71,4 @@ returns c =
     let longer : length c.push.new.self.buckets ≡ live + 1 = ap (λ (x : Indexed). length x.buckets) c.push.ensures ∙ length_push r.index.buckets c.bucket-bucket.result in
     let Answer : Held → Type 0 = λ h. IsAnswer h p (New c.len-place.result) (held r.room r.open_segments (set r.places.items c.len-place.result p) (length c.push.new.self.buckets) r.starts) in
     let a = subst Answer c.self.view_is (rw (longer, c.len-place.ensures.count) (subst At (sym one_more) (answer_new p nowhere free (subst Sound one_more c.self.invariant)))) in
-    record { there = a.there; full = a.full; its_place = a.its_place; new_place = a.new_place; after = a.after; distinct = a.distinct }
+    record { there = a.there; full = a.full; its_place = a.its_place; new_place = a.new_place; after = a.after; distinct = a.distinct; below = a.below; «open» = a.open_count }
