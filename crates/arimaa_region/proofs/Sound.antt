@@ -1,5 +1,5 @@
 -- What the fields of a region say of its value, and how they stay sound.
-use Rattle.std.proofs.Common.{◌≡◌, ◌≢◌, ℕ, zero, suc, ◌+◌, ◌-◌, ◌<◌, ◌≤◌, List, [], ◌∷◌, ◌++◌, length, get_or, take, drop, map, Some, refl, sym, ap, ◌∙◌, arith, subst, length-set, add-one, ⊎_elim}
+use Rattle.std.proofs.Common.{◌≡◌, ◌≢◌, ℕ, suc, ◌+◌, ◌-◌, ◌<◌, ◌≤◌, List, [], ◌∷◌, ◌++◌, length, get_or, take, drop, map, Some, sym, ap, ◌∙◌, arith, subst, length-set, add-one, ⊎_elim}
 use Rattle.std.specs.List.{Contains, All, slice_get}
 use Rattle.std.proofs.Math.ListN.{set}
 use Rattle.std.proofs.lemmas.Bool.{cases_eq}
@@ -11,7 +11,7 @@ use Rattle.arimaa_board.specs.declared.position.Position.{Position}
 use Rattle.arimaa_region.specs.Hash.{bucket_of}
 use Rattle.arimaa_region.specs.Index.{Indexed}
 use Rattle.arimaa_region.specs.Segments.{Held, live_of, lowest, segment_of, top}
-use Rattle.arimaa_region.specs.Layout.{between, cut, Rises, IsDistinct, IsSound}
+use Rattle.arimaa_region.specs.Layout.{between, cut, IsDistinct, IsSound}
 use Rattle.arimaa_region.proofs.Cutting.{AreLowest, AreLowest-all, AreLowest-some, live_of-cut, length-between, length-cut, length-live_of-cut, cut-mark, Rises-mark, cut-push}
 
 -- the value of the fields
@@ -105,7 +105,7 @@ lies_at {n} {places} {index} {starts} m e below l s =
     let here : segment_of segments m ≡ between places first e = ap (λ (k : ℕ). top (lowest k segments)) (add-one m) ∙ ap top l.segments in
     let sum : first + (e - first) ≡ e = omega (arith, l.rising.0) in
     let part : take (e - first) (drop first (take live places)) ≡ between places first e =
-      sym (drop-take first (e - first) (take live places)) ∙ (ap (λ (k : ℕ). drop first (take k (take live places))) sum ∙ ap (drop first) (take-take e live places l.within)) in
+    sym (drop-take first (e - first) (take live places)) ∙ (ap (λ (k : ℕ). drop first (take k (take live places))) sum ∙ ap (drop first) (take-take e live places l.within)) in
     record {
       begins = sym (ap (λ (xs : List (List Position)). length (live_of xs)) lower.segments ∙ length-live_of-cut places starts m first lower.rising (omega (arith, lower.within)));
       rises = l.rising.0;

@@ -1,5 +1,5 @@
 -- The answers to a placing.
-use Rattle.std.specs.Prelude.{ℕ, Bool, true, false, ⊤, if◌then◌else◌}
+use Rattle.std.specs.Prelude.{ℕ, Bool, true, false, ⊤}
 use Rattle.arimaa_board.specs.declared.position.Position.{Position}
 use Rattle.arimaa_region.specs.declared.placed.Placed.{Placed}
 use Rattle.arimaa_region.specs.declared.placed.Placed.TheVariants.{New, There, Full}

@@ -1,5 +1,5 @@
 -- What a region holds.
-use Rattle.std.specs.Prelude.{◌≡◌, ℕ, ◌+◌, ◌-◌, ◌<◌, ◌≤◌, List, [], ◌∷◌, ◌++◌, length, drop}
+use Rattle.std.specs.Prelude.{ℕ, ◌+◌, ◌-◌, List, [], ◌∷◌, ◌++◌, length, drop}
 use Rattle.arimaa_board.specs.declared.position.Position.{Position}
 
 -- the room, and the open segments, the top one first, each with its positions in the order of their places

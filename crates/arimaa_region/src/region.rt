@@ -1,5 +1,5 @@
 //! The region.
-ghost use Rattle.std.specs.Prelude.{◌≡◌, ◌≢◌, ℕ, ◌+◌, ◌-◌, ◌<◌, ◌≤◌, ◌==◌, ◌↔◌, [], ◌∷◌, ◌++◌, length, take, drop, Contains, All, Some, IfOk, IsTrue, slice_get, slice_index, if◌then◌else◌};
+ghost use Rattle.std.specs.Prelude.{◌≡◌, ◌+◌, ◌<◌, ◌≤◌, ◌↔◌, [], ◌∷◌, length, take, drop, Contains, Some, IfOk, IsTrue, slice_get, slice_index, if◌then◌else◌};
 ghost use Rattle.arimaa_region.specs.Layout.{IsDistinct};
 ghost use Rattle.arimaa_region.specs.Placed.{is_there, is_full, IfThere, IfNew, with_placed};
 ghost use Rattle.arimaa_region.specs.Segments.{top, below_top, live_of, lowest, segment_of};
@@ -12,7 +12,9 @@ use arimaa_board::{Board, Color, Position};
 use std::alloc::{AllocError, Global};
 use std::marker::Model;
 
-/// A segment of a region, by the number of segments that were open when it was opened.
+/// Names an open segment, by the number of segments that were open when it was opened.
+///
+/// Once the segment is released, the name is that of the next segment opened at its height.
 #[derive(Clone, Copy, Debug)]
 pub struct Mark {
     number: u8,
@@ -70,7 +72,9 @@ fn end_of(starts: &[u32; 64], open_segments: u8, live: u32, number: u8) -> u32
 }
 
 impl Region {
-    /// A region of so many places, with no segment open. This call alone takes memory.
+    /// A region of so many places, from 1 to 1,048,576, with no segment open.
+    ///
+    /// This call alone takes memory, 52 bytes a place. `AllocError` comes only where there is too little of it.
     pub fn with_room(alloc: Global, room: u32) -> Result<Region, AllocError>
         requires some { 1 ≤ room }
         requires most { room ≤ 1048576 }
@@ -102,9 +106,10 @@ impl Region {
         Mark { number }
     }
 
-    /// Puts a position at the end of the top segment, unless the segment has it or no place is free.
+    /// Puts a position at the end of the top segment, unless it stands there or no place is free.
     ///
-    /// It is found by its hash, and the cost does not grow with the segment.
+    /// The segments below count for nothing but their places. A position is found by its hash, so
+    /// the cost does not grow with the segment.
     pub fn place(&mut self, position: Position) -> Placed
         requires { 0 < length self.old.segments }
         ensures there { IsTrue (is_there result) ↔ Contains (top self.old.segments) position }
@@ -118,7 +123,13 @@ impl Region {
     {
         let first = self.starts[self.open_segments as usize - 1];
         let bucket = bucket(&position, self.room);
-        if let Some(place) = find(self.places.as_slice(), &self.index, first, &position, bucket) {
+        if let Some(place) = find(
+            self.places.as_slice(),
+            &self.index,
+            first,
+            &position,
+            bucket,
+        ) {
             return Placed::There(place);
         }
         let place = self.index.len();
@@ -148,12 +159,7 @@ impl Region {
     {
         let number = mark.number;
         let first = self.starts[number as usize];
-        let end = end_of(
-            &self.starts,
-            self.open_segments,
-            self.index.len(),
-            number,
-        );
+        let end = end_of(&self.starts, self.open_segments, self.index.len(), number);
         (first, end - first)
     }
 
@@ -165,7 +171,7 @@ impl Region {
         self.index.len()
     }
 
-    /// Gives back the top segment with all of its places.
+    /// Closes the top segment, which is the one of `mark`, and gives its places back.
     pub fn release(&mut self, mark: Mark)
         requires { mark + 1 ≡ length self.old.segments }
         ensures { self.new ≡ record self.old { segments = below_top self.old.segments } }

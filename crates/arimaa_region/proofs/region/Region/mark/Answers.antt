@@ -1,4 +1,4 @@
-use Rattle.std.proofs.Common.{◌≡◌, ℕ, ◌+◌, ◌<◌, suc, [], ◌∷◌, length, ap, ◌∙◌, arith, add-one}
+use Rattle.std.proofs.Common.{◌≡◌, ◌+◌, ◌<◌, [], ◌∷◌, length, ap, ◌∙◌, arith, add-one}
 use Rattle.std.proofs.Math.ListN.{set}
 use Rattle.arimaa_region.specs.Layout.{cut}
 use Rattle.arimaa_region.specs.Segments.{Held}
@@ -25,5 +25,5 @@ returns-clause-opened c =
     let opened = open_count r.room r.open_segments r.places.items live r.starts _ c.self.view_is in
     let inside : r.open_segments < length r.starts = omega (arith, c.requires, c.self.invariant.rooms.2) in
     let segments : cut r.places.items (set r.starts r.open_segments c.len.result) (r.open_segments + 1) live ≡ [] ∷ cut r.places.items r.starts r.open_segments live =
-      rw (c.len.ensures.count, add-one) (cut-mark r.places.items r.starts r.open_segments live inside (taken_fit c.self.invariant)) in
+    rw (c.len.ensures.count, add-one) (cut-mark r.places.items r.starts r.open_segments live inside (taken_fit c.self.invariant)) in
     (λ i. record { room = r.room; segments = segments i }) ∙ ap (λ (h : Held). record h { segments = [] ∷ h.segments }) c.self.view_is

@@ -1,8 +1,8 @@
-use Rattle.std.proofs.Common.{◌≡◌, ◌≢◌, ℕ, ◌+◌, ◌-◌, ◌<◌, ◌≤◌, suc, ◌∷◌, [], ◌++◌, length, get_or, ap, sym, ◌∙◌, arith, subst}
+use Rattle.std.proofs.Common.{◌≡◌, ℕ, ◌+◌, ◌-◌, ◌<◌, suc, length, get_or, ap, sym, ◌∙◌, arith, subst}
 use Rattle.std.proofs.lemmas.List.{length_push}
 use Rattle.std.proofs.Math.ListN.{set}
 use Rattle.arimaa_region.specs.declared.placed.Placed.TheVariants.{New, There, Full}
-use Rattle.arimaa_region.specs.Layout.{cut, IsSound}
+use Rattle.arimaa_region.specs.Layout.{IsSound}
 use Rattle.arimaa_region.specs.Index.{Indexed}
 use Rattle.arimaa_region.specs.Segments.{Held}
 use Rattle.arimaa_region.proofs.Places.{IsNowhere}

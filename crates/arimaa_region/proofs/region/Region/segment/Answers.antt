@@ -1,4 +1,4 @@
-use Rattle.std.proofs.Common.{ℕ, ◌-◌, ◌<◌, length, arith, subst, ◌∙◌}
+use Rattle.std.proofs.Common.{ℕ, ◌<◌, length, arith, subst, ◌∙◌}
 use Rattle.std.specs.List.{slice_index}
 use Rattle.arimaa_region.specs.Segments.{Held}
 use Rattle.arimaa_region.proofs.Sound.{LiesAt, lies, open_count}
