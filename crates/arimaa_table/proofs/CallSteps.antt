@@ -28,6 +28,10 @@ pub then_changed : (v : PassView) (i : ℕ) (F : PlaceView → PlaceView) (p : P
 then_changed v i F p m m' xs ys inside e f = f ∙ (ap (λ (x : Me Line PassView). (changed x.0 i (F (at i x.0)), ys)) e ∙ (ap (λ (x : PlaceView). (changed (changed v i p) i (F x), ys)) (at_changed v i p inside)
     ∙ ap (λ (x : PassView). (x, ys)) (changed_again v i p (F p))))
 
+-- after a load the pass has seen the count that it found
+pub expects : (v : PassView) (i n : ℕ) (m : Me Line PassView) (xs : List (ℕ × Line)) → i < length v.places → m ≡ (changed v i (after_load (at i v) n), xs) → n ≡ (at i m.0).seen
+expects v i n m xs inside e = sym (ap (λ (x : Me Line PassView). (at i x.0).seen) e ∙ ap (λ (p : PlaceView). p.seen) (at_changed v i (after_load (at i v) n) inside))
+
 module _ (v : PassView) (i : ℕ) (inside : i < length v.places) (n r : ℕ) (m m' : Me Line PassView) (first : m ≡ (changed v i (after_load (at i v) n), [])) (even : n % 2 ≡ 0) (told : Later (at i v) n) where
   abbrev p : PlaceView
   p = at i v
@@ -42,9 +46,10 @@ module _ (v : PassView) (i : ℕ) (inside : i < length v.places) (n r : ℕ) (m 
     now = q;
     me = then_changed v i (λ x. after_miss x r) (after_load p n) m m' [] [] inside first (is ∙ ap (λ (xs : List (ℕ × Line)). (changed m.0 i (after_miss (at i m.0) r), xs)) (ap (λ (x : Me Line PassView). x.1) first));
     was = record {
-      cause = (refl, omega arith, inr (refl, omega arith));
+      cause = (refl, omega arith, inr (refl, omega arith, omega arith));
       since = λ _. let l : p.last < n + 1 = ⊎_elim (λ (z : p.last ≡ 0). omega arith) (λ (z : p.last < p.seen). omega arith) (told.1 free) in omega arith;
       seen = refl;
+      not_back = omega arith;
       kept = refl;
       took = refl;
       none_taken = refl;

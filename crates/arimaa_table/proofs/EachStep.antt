@@ -44,7 +44,7 @@ module _ (k : Setting) where
             (turned k s r i (c + 1) id (set s.homes i none) me.0 q at_id live inside (length-set s.homes i none) (λ j n. set_else s.homes i j none n)
             (subst (λ (z : Option (Option Line)). Place k.attacker k.barred.items (c + 1) z (set ps id q)) (sym (set_here s.homes i none (omega arith)))
             (takes k.attacker k.barred.items c h ps id p here at_p still (there ps id p q at_p))))),
-        ((λ _. (l, (subst (λ (z : Color × List Position). IsTrueLine z.0 z.1 l) (λ j. (sym live.1 j, sym live.2 j)) here.is_true, (here.knows id p at_p).kept), refl)), (λ miss. absurd (miss hit))),
+        (λ _. ((λ _. (l, (subst (λ (z : Color × List Position). IsTrueLine z.0 z.1 l) (λ j. (sym live.1 j, sym live.2 j)) here.is_true, (here.knows id p at_p).kept), refl)), (λ miss. absurd (miss hit)))),
       ))
       (λ miss. let t = sees k.attacker k.barred.items Missed c h ps id p here at_p in let w : PassView = changed me.0 i (after_miss p c) in let wide' = r.counts in let after = turned k s r i c id s.homes me.0 (after_miss p c) at_id live inside refl (λ _ _. refl) t.0 in (
         changed me.0 i (after_miss p c),
@@ -52,7 +52,7 @@ module _ (k : Setting) where
         tt,
         subst (λ b. Ruled k (stepped s i (either b new c) id me.1 (changed me.0 i (after_miss p c)) keeps)) (sym (ne_eqb c old miss))
             after,
-        ((λ hit. absurd (miss hit)), (λ _. (refl, t.1, was_ruled k _ id i c w after (live_changed k me.0 i (after_miss p c) live) (seat_there s.views id me.0 w at_id) (get_or-set_same s.words i c 0 (omega arith))))),
+        (λ _. ((λ hit. absurd (miss hit)), (λ _. (refl, t.1, was_ruled k _ id i c w after (live_changed k me.0 i (after_miss p c) live) (seat_there s.views id me.0 w at_id) (get_or-set_same s.words i c 0 (omega arith)))))),
       ))
 
   pub gives_back : (slots id i : ℕ) (me : Me Line PassView) (x : Line) (new : ℕ) → IsLive k me.0 → i < k.lines → me.1 ≡ (i, x) ∷ [] → (at i me.0).holds ≡ true → new ≡ (at i me.0).last + 1

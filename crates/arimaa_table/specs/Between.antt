@@ -13,15 +13,16 @@ use Rattle.arimaa_table.specs.Places.{at, after_load, after_take, changed, IsFor
 abbrev pub odd_up_to : ℕ → ℕ
 odd_up_to c = c - (c + 1) % 2
 
--- the last step of this call found c. It was a load of an odd or a worn count, or a taking that failed and was not the first step of the call
+-- the last step of this call found c. It was a load of an odd or a worn count, or a taking that failed since the count had moved on after an earlier step of the call
 abbrev pub FoundBusy : PlaceView → PlaceView → ℕ → Type 0
-FoundBusy old new c = (new.found ≡ c) × (old.steps < new.steps) × (((new.kind ≡ Load) × ((c % 2 ≡ 1) ⊎ (c ≡ 2 ^ 64 - 2))) ⊎ ((new.kind ≡ Missed) × (old.steps + 2 ≤ new.steps)))
+FoundBusy old new c = (new.found ≡ c) × (old.steps < new.steps) × (((new.kind ≡ Load) × ((c % 2 ≡ 1) ⊎ (c ≡ 2 ^ 64 - 2))) ⊎ ((new.kind ≡ Missed) × (old.steps + 2 ≤ new.steps) × (old.seen < c)))
 
 -- the pass took no line, and has seen c. Another pass took it after this one last did, unless the place is worn
 pub record WasBusy (old new : PlaceView) (c : ℕ) : Type 0 where
   pub cause : FoundBusy old new c
   pub since : c ≢ 2 ^ 64 - 2 → old.last < odd_up_to c
   pub seen : new.seen ≡ c
+  pub not_back : old.seen ≤ c
   pub kept : new.kept ≡ old.kept
   pub took : new.took ≡ old.took
   pub none_taken : new.takings ≡ old.takings

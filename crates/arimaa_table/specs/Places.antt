@@ -130,8 +130,11 @@ loaded st m r m' = (m' ≡ (changed m.0 st.word (after_load (at st.word m.0) r),
 abbrev pub IsFor : PassView → ℕ → Line → Type 0
 IsFor v i l = IsTrueLine v.attacker v.barred l × NoNewer (at i v).kept l
 
+-- a taking that expects the count that the pass has seen. Where it finds that count it takes the line, and else it tells that the count has moved on
 abbrev pub tried : Step Line → Mine → ℕ → Mine → Type 0
-tried st m r m' = (r ≡ st.first → (l : Line) × IsFor m.0 st.word l × (m' ≡ (changed m.0 st.word (after_take (at st.word m.0) r l), (st.word, l) ∷ m.1)))
+tried st m r m' =
+    st.first ≡ (at st.word m.0).seen
+    → (r ≡ st.first → (l : Line) × IsFor m.0 st.word l × (m' ≡ (changed m.0 st.word (after_take (at st.word m.0) r l), (st.word, l) ∷ m.1)))
     × (r ≢ st.first → (m' ≡ (changed m.0 st.word (after_miss (at st.word m.0) r), m.1)) × Later (at st.word m.0) r × WasRuled m'.0 st.word r)
 
 abbrev pub in_hand : List (ℕ × Line) → Line

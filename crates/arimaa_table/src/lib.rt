@@ -13,6 +13,7 @@ mod holding;
 mod making;
 mod steps;
 mod table;
+mod threads;
 mod views;
 
 pub use answers::{Looked, Put};
