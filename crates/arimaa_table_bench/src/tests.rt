@@ -1,5 +1,6 @@
 //! Worked lines, two passes of one line, and four threads.
-use super::*;
+use crate::facts::judged;
+use crate::workers::spread;
 use arimaa_board::{Board, Color, Piece, Position, Square};
 use arimaa_line::{Known, Line, decode, encode, index_of, next_stamp, stamp};
 use arimaa_table::{Looked, Put, Table};

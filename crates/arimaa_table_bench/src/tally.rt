@@ -3,7 +3,7 @@ use arimaa_line::{Known, Line, decode, stamp};
 
 /// How often each answer came.
 #[derive(Clone, Copy, Debug, PartialEq, Eq)]
-pub struct Tally {
+pub(crate) struct Tally {
     /// Lines that were read: by looks, and by puts that lost.
     pub read: u64,
     /// Lines that were read and say nothing of what was put.
@@ -18,7 +18,7 @@ pub struct Tally {
 
 impl Tally {
     /// Nothing was met yet.
-    pub fn new() -> Tally {
+    pub(crate) fn new() -> Tally {
         Tally {
             read: 0,
             strange: 0,
@@ -29,7 +29,7 @@ impl Tally {
     }
 
     /// How many rounds there were, each of which ends in one of these answers.
-    pub fn answers(&self) -> u64 {
+    pub(crate) fn answers(&self) -> u64 {
         self.stored
             .saturating_add(self.lost)
             .saturating_add(self.busy)
@@ -48,7 +48,7 @@ impl Tally {
     }
 
     /// What two workers met together.
-    pub fn plus(&self, other: &Tally) -> Tally {
+    pub(crate) fn plus(&self, other: &Tally) -> Tally {
         Tally {
             read: self.read.saturating_add(other.read),
             strange: self.strange.saturating_add(other.strange),

@@ -9,7 +9,13 @@ use arimaa_table::{Looked, Put, Table, TablePass};
 use std::thread::{Threads, join};
 
 /// One round: a look at the place of a verdict, and a put of the verdict over the line found.
-pub fn round(table: &Table, pass: &mut TablePass, known: &Known, facts: &[Known], tally: &mut Tally)
+pub(crate) fn round(
+    table: &Table,
+    pass: &mut TablePass,
+    known: &Known,
+    facts: &[Known],
+    tally: &mut Tally,
+)
     requires pass { IsPassOf table.now pass.old }
     requires known { IsTrueOf table.now known.now }
     ensures { IsPassOf table.now pass.new }
@@ -44,7 +50,12 @@ fn sweep(table: &Table, pass: &mut TablePass, facts: &[Known], tally: &mut Tally
 }
 
 /// A round for each verdict, as often as it is said.
-pub fn work(table: &Table, mut pass: TablePass, facts: &[Known], rounds: u32) -> (TablePass, Tally)
+pub(crate) fn work(
+    table: &Table,
+    mut pass: TablePass,
+    facts: &[Known],
+    rounds: u32,
+) -> (TablePass, Tally)
     requires pass { IsPassOf table.now pass }
     requires facts { All (λ k. IsTrueOf table.now k) facts.now }
     ensures { IsPassOf table.now result.0 }
@@ -57,7 +68,7 @@ pub fn work(table: &Table, mut pass: TablePass, facts: &[Known], rounds: u32) ->
 }
 
 /// The work of as many threads as 2 to the power of `halvings`, each with a pass of its own.
-pub fn spread<R: Threads + Sync>(
+pub(crate) fn spread<R: Threads + Sync>(
     rt: &R,
     table: &Table,
     mut pass: TablePass,
