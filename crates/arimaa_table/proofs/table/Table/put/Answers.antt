@@ -1,0 +1,22 @@
+use Rattle.std.proofs.Common.{ap, rules, arith}
+use Rattle.atomic_table.specs.Table.{Me}
+use Rattle.arimaa_line.specs.declared.line.Line.{Line}
+use Rattle.arimaa_line.proofs.Truth.{says_truth}
+use Rattle.arimaa_table.specs.declared.views.Setting.{Setting}
+use Rattle.arimaa_table.specs.declared.views.PassView.{PassView}
+use Rattle.arimaa_table.proofs.CallSteps.{given_back, may_give_newer, only_here}
+use Rattle.arimaa_table.proofs.table.Table.put.Goals as goal
+
+pub returns-then-stamp-next-clause-only_here : goal.returns-then-stamp-next-clause-only_here
+returns-then-stamp-next-clause-only_here c = let v : PassView = c.args.pass.now.seat.me.0 in
+    let e = given_back c.args.self.now.words.shared.key v c.args.place _ _ _ _ _ c.requires.pass.1 c.requires.place c.in-Ok.ensures.took c.give.ensures.gave in
+    only_here v _ c.args.place _ (search rules) (ap (λ (y : Me Line PassView). y.0) e)
+
+pub returns-else-stamp-next-clause-only_here : goal.returns-else-stamp-next-clause-only_here
+returns-else-stamp-next-clause-only_here c = let v : PassView = c.args.pass.now.seat.me.0 in
+    let e = given_back c.args.self.now.words.shared.key v c.args.place _ _ _ _ _ c.requires.pass.1 c.requires.place c.in-Ok.ensures.took c.give-else-stamp-next.ensures.gave in
+    only_here v _ c.args.place _ (search rules) (ap (λ (y : Me Line PassView). y.0) e)
+
+pub give-requires-else-stamp-next-clause-table : goal.give-requires-else-stamp-next-clause-table
+give-requires-else-stamp-next-clause-table c = let k : Setting = c.args.self.now.words.shared.key in
+    (search rules, may_give_newer k c.args.pass.now.seat.me.0 c.args.place _ _ _ _ c.requires.pass.1 c.requires.place c.in-Ok.ensures.took (omega (arith, c.encode.ensures.stamp)) (says_truth k.attacker k.barred.items _ _ c.encode.ensures.reads_back c.requires.known))

@@ -1,0 +1,86 @@
+-- What clauses say of a table and its passes.
+use Rattle.std.specs.Prelude.{◌≡◌, ℕ, ◌+◌, ◌-◌, ◌<◌, ◌≤◌, ◌^◌}
+use mathlib.Core.Option.{some}
+use lib.ListN.{get_elem?}
+use Rattle.atomic_table.specs.Table.{State}
+use Rattle.arimaa_line.specs.declared.known.Known.{Known}
+use Rattle.arimaa_line.specs.declared.line.Line.{Line}
+use Rattle.arimaa_line.specs.Lines.{IsTrueLine, IsTrueKnown, encoded, stamp_of}
+use Rattle.arimaa_table.specs.declared.views.PlaceView.{PlaceView}
+use Rattle.arimaa_table.specs.declared.views.PassView.{PassView}
+use Rattle.arimaa_table.specs.declared.views.Setting.{Setting}
+use Rattle.arimaa_table.specs.declared.table.Table.{Table}
+use Rattle.arimaa_table.specs.declared.table.TablePass.{TablePass}
+use Rattle.arimaa_table.specs.declared.answers.Looked.{Looked}
+use Rattle.arimaa_table.specs.declared.answers.Looked.TheVariants.{Found}
+use Rattle.arimaa_table.specs.declared.answers.Looked.TheVariants as looked
+use Rattle.arimaa_table.specs.declared.answers.Put.{Put}
+use Rattle.arimaa_table.specs.declared.answers.Put.TheVariants.{Stored, Lost, Busy, Worn}
+use Rattle.arimaa_table.specs.Between.{WasBusy}
+use Rattle.arimaa_table.specs.Places.{at, IsLive, changed, NoNewer, Ruled}
+
+-- what the table was told once, when it was made
+abbrev pub setting_of : Table → Setting
+setting_of t = t.words.shared.key
+
+abbrev pub lines_of : Table → ℕ
+lines_of t = (setting_of t).lines
+
+abbrev pub view : TablePass → PassView
+view p = p.seat.me.0
+
+abbrev pub place_view : TablePass → ℕ → PlaceView
+place_view p i = at i (view p)
+
+-- the pass is one of this table
+abbrev pub IsPassOf : Table → TablePass → Type 0
+IsPassOf t p = (p.seat.table_id ≡ t.words.shared.table_id) × IsLive (setting_of t) (view p)
+
+-- a true line of the table's context
+abbrev pub IsTrueIn : Table → Line → Type 0
+IsTrueIn t l = IsTrueLine (setting_of t).attacker (setting_of t).barred.items l
+
+-- in this call the pass took the true line l, which is no older than the one that it kept, and it left the line x, which it keeps from then on
+pub record TookLine (t : Table) (old new : PlaceView) (l x : Line) : Type 0 where
+  pub is_true : IsTrueIn t l
+  pub no_older : NoNewer old.kept l
+  pub took : new.took ≡ l
+  pub kept : new.kept ≡ x
+  pub once : new.takings ≡ old.takings + 1
+  pub last : new.last < new.seen
+  pub after : old.seen < new.last
+  pub steps : old.steps < new.steps
+
+abbrev pub OnlyHere : TablePass → TablePass → ℕ → Type 0
+OnlyHere old new i = view new ≡ changed (view old) i (place_view new i)
+
+-- what a look answers
+abbrev pub LookedAt : Table → PlaceView → PlaceView → Looked → Type 0
+LookedAt t old new (Found l) = TookLine t old new l l
+LookedAt t old new (looked.Busy c) = WasBusy old new c
+
+abbrev pub IsTrueOf : Table → Known → Type 0
+IsTrueOf t k = IsTrueKnown (setting_of t).attacker (setting_of t).barred.items k
+
+-- what a put answers
+abbrev pub PutAt : Table → PlaceView → PlaceView → Line → Known → Put → Type 0
+PutAt t old new seen known (Stored s) = (s ≡ stamp_of seen + 1) × (s < 2 ^ 64) × TookLine t old new seen (encoded known s)
+PutAt t old new seen known (Lost l) = (stamp_of seen < stamp_of l) × (stamp_of seen + 1 < 2 ^ 64) × TookLine t old new l l
+PutAt t old new seen known (Busy c) = (stamp_of seen + 1 < 2 ^ 64) × WasBusy old new c
+PutAt t old new seen known Worn = (stamp_of seen ≡ 2 ^ 64 - 1) × (new ≡ old)
+
+-- At one moment of the call the rule held of the counts, the lines at home and the views of all passes, and this pass knew what it knows now
+abbrev pub IsRuled : Table → TablePass → Type 0
+IsRuled t p = (s : State Line PassView) × (j : ℕ) × Ruled (setting_of t) s × (get_elem? s.views j ≡ some (view p))
+
+-- At each place the pass keeps a line that is no older than before
+abbrev pub KeepsNoOlder : TablePass → TablePass → Type 0
+KeepsNoOlder old new = (i : ℕ) → NoNewer (place_view old i).kept (place_view new i).kept
+
+-- How many steps the pass has made at each place
+abbrev pub steps_of : TablePass → ℕ → ℕ
+steps_of p i = (place_view p i).steps
+
+-- At each place the pass made at least as many steps
+abbrev pub NoFewer : (ℕ → ℕ) → (ℕ → ℕ) → Type 0
+NoFewer old new = (i : ℕ) → old i ≤ new i

@@ -1,0 +1,173 @@
+-- The rule of the turn counts, what each step does to a view, and what it tells.
+use Rattle.std.specs.Prelude.{◌≡◌, ◌≢◌, ℕ, ◌+◌, ◌/◌, ◌%◌, ◌<◌, ◌≤◌, ◌⊎◌, true, false, List, [], ◌∷◌, map, length, max, replicate, slice_index, slice_index_or, slice_set, if◌then◌else◌, nat_lt}
+use mathlib.Core.Option.{Option, none, some}
+use lib.ListN.{get_elem?}
+use Rattle.atomic_table.specs.Table.{State, Me, Step, rest}
+use Rattle.arimaa_board.specs.declared.piece.Color.{Color}
+use Rattle.arimaa_board.specs.declared.position.Position.{Position}
+use Rattle.arimaa_board.specs.declared.piece.Color.TheVariants.{Gold}
+use Rattle.arimaa_line.specs.declared.line.Line.{Line}
+use Rattle.arimaa_line.specs.Lines.{IsTrueLine, empty_line, stamp_of}
+use Rattle.arimaa_table.specs.declared.views.Kind.TheVariants.{Nothing, Load, Took, Missed}
+use Rattle.arimaa_table.specs.declared.views.PlaceView.{PlaceView}
+use Rattle.arimaa_table.specs.declared.views.PassView.{PassView}
+use Rattle.arimaa_table.specs.declared.views.Setting.{Setting}
+
+-- what a pass knows of a place at which it made no step
+abbrev pub fresh : PlaceView
+fresh = record { kept = empty_line; took = empty_line; seen = 0; takings = 0; last = 0; steps = 0; kind = Nothing; found = 0; holds = false }
+
+abbrev pub after_load : PlaceView → ℕ → PlaceView
+after_load p c = record p { seen = c; steps = p.steps + 1; kind = Load; found = c }
+
+abbrev pub after_miss : PlaceView → ℕ → PlaceView
+after_miss p c = record p { seen = c; steps = p.steps + 1; kind = Missed; found = c }
+
+-- it found the even count c and the line l
+abbrev pub after_take : PlaceView → ℕ → Line → PlaceView
+after_take p c l = record { kept = l; took = l; seen = c + 1; takings = p.takings + 1; last = c + 1; steps = p.steps + 1; kind = Took; found = c; holds = true }
+
+-- it left the even count c and the line l
+abbrev pub after_give : PlaceView → ℕ → Line → PlaceView
+after_give p c l = record p { kept = l; seen = c; holds = false }
+
+-- the kept line is no newer than this one, and is this one where the stamps are the same
+abbrev pub NoNewer : Line → Line → Type 0
+NoNewer kept line = (stamp_of kept ≤ stamp_of line) × (stamp_of kept ≡ stamp_of line → kept ≡ line)
+
+abbrev pub LastBelow : PlaceView → Type 0
+LastBelow p = (p.last ≡ 0) ⊎ (p.last < p.seen)
+
+-- what a pass knows of a place with this count and this line
+pub record Knows (line : Line) (count : ℕ) (p : PlaceView) : Type 0 where
+  pub kept : NoNewer p.kept line
+  pub seen : p.seen ≤ count
+  pub held : p.holds ≡ true → p.last ≡ p.seen
+  pub free : p.holds ≡ false → LastBelow p
+  pub none_taken : p.takings ≡ 0 → p.last ≡ 0
+
+abbrev pub takings_of : List PlaceView → ℕ
+takings_of [] = 0
+takings_of (p ∷ ps) = p.takings + takings_of ps
+
+-- it holds the place: the count is odd and is that of its last taking, and its kept line is the line of the place
+pub record Holds (line : Line) (count holder j : ℕ) (p : PlaceView) : Type 0 where
+  pub only : j ≡ holder
+  pub odd : count % 2 ≡ 1
+  pub last : p.last ≡ count
+  pub kept : p.kept ≡ line
+
+-- one place, with its count, its slot, and what each pass knows of it
+pub record Place (attacker : Color) (barred : List Position) (count : ℕ) (home : Option (Option Line)) (ps : List PlaceView) : Type 0 where
+  pub line : Line
+  pub holder : ℕ
+  pub is_true : IsTrueLine attacker barred line
+  pub at_home : count % 2 ≡ 0 → home ≡ some (some line)
+  pub away : count % 2 ≡ 1 → (home ≡ some none) × ((p : PlaceView) × (get_elem? ps holder ≡ some p) × (p.holds ≡ true))
+  pub holds : (j : ℕ) (p : PlaceView) → get_elem? ps j ≡ some p → p.holds ≡ true → Holds line count holder j p
+  pub knows : (j : ℕ) (p : PlaceView) → get_elem? ps j ≡ some p → Knows line count p
+  pub takings : takings_of ps ≡ (count + 1) / 2
+
+-- what a pass knows of the place i
+abbrev pub at : ℕ → PassView → PlaceView
+at i v = slice_index_or v.places i fresh
+
+-- what the table was told, and what a pass knows of it
+pub record Context : Type 0 where
+  pub attacker : Color
+  pub barred : List Position
+  pub lines : ℕ
+
+abbrev pub told : Setting → Context
+told k = record { attacker = k.attacker; barred = k.barred.items; lines = k.lines }
+
+abbrev pub context : PassView → Context
+context v = record { attacker = v.attacker; barred = v.barred; lines = length v.places }
+
+-- a pass that was not joined away has the context, and covers all places. One that was knows nothing
+pub record Passes (k : Context) (v : PassView) : Type 0 where
+  pub live : v.spent ≡ false → (v.attacker ≡ k.attacker) × (v.barred ≡ k.barred) × (length v.places ≡ k.lines)
+  pub spent : v.spent ≡ true → v.places ≡ []
+
+pub record Rule (k : Context) (s : State Line PassView) : Type 0 where
+  pub counts : length s.words ≡ k.lines
+  pub slots : length s.homes ≡ k.lines
+  pub each_pass : (j : ℕ) (v : PassView) → get_elem? s.views j ≡ some v → Passes k v
+  pub each_place : (i : ℕ) → i < k.lines → Place k.attacker k.barred (slice_index s.words i) (get_elem? s.homes i) (map (at i) s.views)
+
+abbrev pub Ruled : Setting → State Line PassView → Type 0
+Ruled k = Rule (told k)
+
+-- The rule held at a moment at which a pass knew this, and the place i had the count c
+abbrev pub WasRuled : PassView → ℕ → ℕ → Type 0
+WasRuled v i c = (s : State Line PassView) × (j : ℕ) × Rule (context v) s × (get_elem? s.views j ≡ some v) × (slice_index s.words i ≡ c)
+
+-- the first pass
+abbrev pub first_view : Setting → PassView
+first_view k = record { spent = false; attacker = k.attacker; barred = k.barred.items; places = replicate k.lines fresh }
+
+-- a pass of a table with this setting, which is not spent
+abbrev pub IsLive : Setting → PassView → Type 0
+IsLive k v = (v.spent ≡ false) × (v.attacker ≡ k.attacker) × (v.barred ≡ k.barred.items) × (length v.places ≡ k.lines)
+
+abbrev pub HoldsNone : PassView → Type 0
+HoldsNone v = (i : ℕ) → (at i v).holds ≡ false
+
+abbrev pub changed : PassView → ℕ → PlaceView → PassView
+changed v i p = record v { places = slice_set v.places i p }
+
+abbrev Mine : Type 0
+Mine = Me Line PassView
+
+-- what a count that is found tells of an earlier one
+abbrev pub Later : PlaceView → ℕ → Type 0
+Later p c = (p.seen ≤ c) × (p.holds ≡ false → LastBelow p)
+
+abbrev pub loaded : Step Line → Mine → ℕ → Mine → Type 0
+loaded st m r m' = (m' ≡ (changed m.0 st.word (after_load (at st.word m.0) r), m.1)) × Later (at st.word m.0) r × WasRuled m'.0 st.word r
+
+-- the line is true, and no older than the kept one
+abbrev pub IsFor : PassView → ℕ → Line → Type 0
+IsFor v i l = IsTrueLine v.attacker v.barred l × NoNewer (at i v).kept l
+
+-- a taking that expects the count that the pass has seen. Where it finds that count it takes the line, and else it tells that the count has moved on
+abbrev pub tried : Step Line → Mine → ℕ → Mine → Type 0
+tried st m r m' =
+    st.first ≡ (at st.word m.0).seen
+    → (r ≡ st.first → (l : Line) × IsFor m.0 st.word l × (m' ≡ (changed m.0 st.word (after_take (at st.word m.0) r l), (st.word, l) ∷ m.1)))
+    × (r ≢ st.first → (m' ≡ (changed m.0 st.word (after_miss (at st.word m.0) r), m.1)) × Later (at st.word m.0) r × WasRuled m'.0 st.word r)
+
+abbrev pub in_hand : List (ℕ × Line) → Line
+in_hand [] = empty_line
+in_hand (x ∷ xs) = x.1
+
+abbrev pub gave : Step Line → Mine → ℕ → Mine → Type 0
+gave st m r m' = (m' ≡ (changed m.0 st.word (after_give (at st.word m.0) r (in_hand m.1)), rest m.1)) × WasRuled m'.0 st.word r
+
+-- a split: the pass keeps all, and the new one is a copy without takings
+abbrev pub whole : PassView → PassView
+whole v = v
+
+abbrev pub untaken : PlaceView → PlaceView
+untaken p = record p { takings = 0; last = 0; took = empty_line }
+
+abbrev pub without_takings : PassView → PassView
+without_takings v = record v { places = map untaken v.places }
+
+-- a join
+abbrev pub newer : Line → Line → Line
+newer a b = if nat_lt (stamp_of a) (stamp_of b) then b else a
+
+abbrev pub merged : PlaceView → PlaceView → PlaceView
+merged p q = record { kept = newer p.kept q.kept; took = p.took; seen = max p.seen q.seen; takings = p.takings + q.takings; last = max p.last q.last; steps = p.steps + q.steps; kind = p.kind; found = p.found; holds = false }
+
+abbrev pub merged_all : List PlaceView → List PlaceView → List PlaceView
+merged_all [] qs = []
+merged_all (p ∷ ps) [] = []
+merged_all (p ∷ ps) (q ∷ qs) = merged p q ∷ merged_all ps qs
+
+abbrev pub joined : PassView → PassView → PassView
+joined v w = record v { places = merged_all v.places w.places }
+
+abbrev pub spent_view : PassView
+spent_view = record { spent = true; attacker = Gold; barred = []; places = [] }
