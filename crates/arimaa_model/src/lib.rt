@@ -1,4 +1,9 @@
 //! The rules of Arimaa as definitions, and small plain functions that compute them.
+//!
+//! The definitions stand in `specs/`. Each test of a rule has one small function here, whose contract is
+//! the definition. The functions whose names begin with `plain_` try one list of steps after another:
+//! they are slow, and serve as the measure of fast ones. The functions of `laws` have no body: their
+//! clauses say that the definitions mean what the rule book says.
 #![tactic(auto)]
 
 mod deciding;

@@ -1,0 +1,17 @@
+//! The commands: from the words and the bytes that come in to the bytes and the status that go out.
+#![tactic(auto)]
+
+mod answering;
+mod label;
+mod number;
+mod prove;
+mod question;
+mod start_line;
+mod words;
+
+pub use label::{Label, MOST_LABEL, read_label};
+pub use number::read_number;
+pub use prove::run_prove;
+pub use question::{Entry, Verdict};
+pub use start_line::{StartLine, read_start_line};
+pub use words::{Asked, MOST_TURNS, read_prove};

@@ -1,0 +1,80 @@
+//! The command `prove`.
+ghost use Rattle.std.specs.Prelude.{◌≡◌, ◌≢◌, ◌<◌, ◌≤◌, ◌⊎◌, ℕ, List, Some, IfOk, [], length, option_map};
+ghost use Rattle.arimaa_outside.specs.Faults.{HasRisen};
+ghost use Rattle.arimaa_outside.specs.declared.status.Status.{Status as Ended};
+ghost use Rattle.arimaa_outside.specs.declared.status.Status.TheVariants as outcome;
+ghost use Rattle.arimaa_cli.specs.Answers.{IsAnswer, IsDefined, EndsWith};
+ghost use Rattle.arimaa_cli.specs.Words.{AsksProve};
+ghost use Rattle.arimaa_cli.specs.declared.words.Asked.{Asked as Question};
+
+use crate::answering::answer_to;
+use crate::words::read_prove;
+use arimaa_outside::{CommandWords, ReadAll, Sink, Source, Status, read_all, write_all};
+use std::alloc::Global;
+use std::thread::Threads;
+
+/// The most turns that a question may ask about today.
+const MOST_BUILT: u8 = 1;
+
+// Writes the text of an answer, and ends with its status, or with the status of a write that failed.
+fn say<O: Sink>(output: &mut O, status: Status, text: &[u8]) -> Status
+    ensures ends { EndsWith result (O.contents output.old) (O.contents output.new) status text.now }
+    ensures fault { (result ≡ status) ⊎ ((result ≡ outcome.WriteFault) × HasRisen (O.faults output.old) (O.faults output.new)) }
+{
+    match write_all(output, text) {
+        Ok(()) => status,
+        Err(_) => Status::WriteFault,
+    }
+}
+
+/// Runs the command `prove`: whether a side wins in at most so many turns, together of both sides,
+/// from the position that the input's record ends with.
+///
+/// The words are `prove`, a side, `gold` or `silver`, and a number of turns from 0 to 20. The input is
+/// read to its end before anything is written, and every text is whole before its first byte is
+/// written. Today a record is one start line, and a question asks about one turn at most; what isn't
+/// built yet is answered `not built`. Nobody is waited for.
+pub fn run_prove<R: Threads + Sync, I: Source, O: Sink>(
+    _rt: &R,
+    alloc: Global,
+    words: &CommandWords,
+    input: &mut I,
+    output: &mut O,
+) -> Status
+    // What the words and the bytes of the input define is written, whole, unless a read or a write
+    // failed or memory was wanting.
+    ensures answer { (given : List ℕ) → I.remaining input.old ≡ Some given → result ≢ outcome.ReadFault → result ≢ outcome.Memory
+        → (ended : Ended) × (text : List ℕ) × IsDefined words.now given ended text
+        × EndsWith result (O.contents output.old) (O.contents output.new) ended text }
+
+    // The words alone decide whether they are in form.
+    ensures words { result ≡ outcome.Words → (asked : Question) → AsksProve words.now asked → ⊥ }
+    ensures misworded { ((asked : Question) → AsksProve words.now asked → ⊥) → (result ≡ outcome.Words) ⊎ (result ≡ outcome.WriteFault) }
+
+    // Each failure of the outside is one that was counted in this call.
+    ensures read_fault { result ≡ outcome.ReadFault → HasRisen (I.faults input.old) (I.faults input.new) }
+    ensures write_fault { result ≡ outcome.WriteFault → HasRisen (O.faults output.old) (O.faults output.new) }
+    ensures unwritten { (result ≡ outcome.ReadFault) ⊎ (result ≡ outcome.Memory) → O.contents output.new ≡ O.contents output.old }
+
+    // An answer says that the input was read to its end.
+    ensures whole { (result ≡ outcome.Done) ⊎ (result ≡ outcome.Answered) → I.remaining input.new ≡ option_map (λ _. []) (I.remaining input.old) }
+
+    // The other statuses are of other commands, or of questions that aren't built yet.
+    ensures others { (result ≢ outcome.EngineFault) × (result ≢ outcome.Spent) × (result ≢ outcome.Crowded) }
+{
+    let Some(asked) = read_prove(words) else {
+        return say(output, Status::Words, b"bad words\n");
+    };
+    if asked.depth > MOST_BUILT {
+        return say(output, Status::NotBuilt, b"not built\n");
+    }
+    match read_all(alloc, input) {
+        Err(ReadAll::Fault) => Status::ReadFault,
+        Err(ReadAll::TooLong) => say(output, Status::TooLong, b"too long\n"),
+        Err(ReadAll::Memory) => Status::Memory,
+        Ok(bytes) => match answer_to(alloc, &asked, &bytes) {
+            Err(_) => Status::Memory,
+            Ok(answer) => say(output, answer.status, &answer.text),
+        },
+    }
+}
