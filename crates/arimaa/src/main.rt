@@ -5,11 +5,13 @@ use arimaa_cli::run_prove;
 use arimaa_outside::{CommandWords, Status, StdSink, StdSource};
 use std::alloc::{AllocError, Global};
 use std::process::ExitCode;
+use std::rt::Env;
+use std::thread::Threads;
 use std::{env, io};
 
 // The words after the program's own name. Where one of them is not UTF-8 there are none, since such
 // words are in no command's form.
-fn command_words(rt: &(impl env::Env + AllocGlobal)) -> Result<CommandWords, AllocError> {
+fn command_words(rt: &(impl Env + AllocGlobal)) -> Result<CommandWords, AllocError> {
     let mut words = CommandWords::new(rt.alloc());
     match env::args(rt) {
         Ok(args) => {
@@ -27,10 +29,10 @@ fn command_words(rt: &(impl env::Env + AllocGlobal)) -> Result<CommandWords, All
 }
 
 // Runs the command that the words ask for, on standard input and standard output.
-fn run(rt: &HostRuntime) -> Status {
+fn run<R: Threads + Sync + Env + AllocGlobal + Input + Print>(rt: &R) -> Status {
     match command_words(rt) {
         Ok(words) => {
-            let mut input = StdSource::new(rt.stdin());
+            let mut input = StdSource::new(rt.reader());
             let mut output = StdSink::new(io::writer(rt));
             run_prove(rt, rt.alloc(), &words, &mut input, &mut output)
         }
