@@ -7,6 +7,7 @@ use Rattle.arimaa_line.specs.declared.known.Known.{Known}
 use Rattle.arimaa_line.specs.declared.line.Line.{Line}
 use Rattle.arimaa_line.specs.Words.{verdict_words}
 
+-- the line of these words
 abbrev pub line_of : List ℕ → Line
 line_of ws = record { words = ws }
 

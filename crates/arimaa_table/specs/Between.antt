@@ -29,6 +29,7 @@ pub record WasBusy (old new : PlaceView) (c : ℕ) : Type 0 where
   pub last : new.last ≡ old.last
   pub free : new.holds ≡ old.holds
 
+-- after a load that found the even count c and a taking that found the line l
 abbrev pub taken : PlaceView → ℕ → Line → PlaceView
 taken p c l = after_take (after_load p c) c l
 

@@ -23,12 +23,15 @@ use Rattle.arimaa_table.specs.Places.{at, IsLive, changed, NoNewer, Ruled}
 abbrev pub setting_of : Table → Setting
 setting_of t = t.words.shared.key
 
+-- the number of its lines
 abbrev pub lines_of : Table → ℕ
 lines_of t = (setting_of t).lines
 
+-- what a pass knows of its table
 abbrev pub view : TablePass → PassView
 view p = p.seat.me.0
 
+-- what it knows of the place i
 abbrev pub place_view : TablePass → ℕ → PlaceView
 place_view p i = at i (view p)
 
@@ -51,6 +54,7 @@ pub record TookLine (t : Table) (old new : PlaceView) (l x : Line) : Type 0 wher
   pub after : old.seen < new.last
   pub steps : old.steps < new.steps
 
+-- what the pass knows has changed at the place i alone
 abbrev pub OnlyHere : TablePass → TablePass → ℕ → Type 0
 OnlyHere old new i = view new ≡ changed (view old) i (place_view new i)
 
@@ -59,6 +63,7 @@ abbrev pub LookedAt : Table → PlaceView → PlaceView → Looked → Type 0
 LookedAt t old new (Found l) = TookLine t old new l l
 LookedAt t old new (looked.Busy c) = WasBusy old new c
 
+-- the verdict is right in the table's context
 abbrev pub IsTrueOf : Table → Known → Type 0
 IsTrueOf t k = IsTrueKnown (setting_of t).attacker (setting_of t).barred.items k
 

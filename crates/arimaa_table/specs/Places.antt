@@ -17,9 +17,11 @@ use Rattle.arimaa_table.specs.declared.views.Setting.{Setting}
 abbrev pub fresh : PlaceView
 fresh = record { kept = empty_line; took = empty_line; seen = 0; takings = 0; last = 0; steps = 0; kind = Nothing; found = 0; holds = false }
 
+-- a load found the count c
 abbrev pub after_load : PlaceView → ℕ → PlaceView
 after_load p c = record p { seen = c; steps = p.steps + 1; kind = Load; found = c }
 
+-- a taking failed, since it found the count c
 abbrev pub after_miss : PlaceView → ℕ → PlaceView
 after_miss p c = record p { seen = c; steps = p.steps + 1; kind = Missed; found = c }
 
@@ -35,6 +37,7 @@ after_give p c l = record p { kept = l; seen = c; holds = false }
 abbrev pub NoNewer : Line → Line → Type 0
 NoNewer kept line = (stamp_of kept ≤ stamp_of line) × (stamp_of kept ≡ stamp_of line → kept ≡ line)
 
+-- the count of the last taking of a pass that holds nothing: 0, or below the count that it saw
 abbrev pub LastBelow : PlaceView → Type 0
 LastBelow p = (p.last ≡ 0) ⊎ (p.last < p.seen)
 
@@ -46,6 +49,7 @@ pub record Knows (line : Line) (count : ℕ) (p : PlaceView) : Type 0 where
   pub free : p.holds ≡ false → LastBelow p
   pub none_taken : p.takings ≡ 0 → p.last ≡ 0
 
+-- the takings of all passes at one place
 abbrev pub takings_of : List PlaceView → ℕ
 takings_of [] = 0
 takings_of (p ∷ ps) = p.takings + takings_of ps
@@ -78,9 +82,11 @@ pub record Context : Type 0 where
   pub barred : List Position
   pub lines : ℕ
 
+-- the context of a table
 abbrev pub told : Setting → Context
 told k = record { attacker = k.attacker; barred = k.barred.items; lines = k.lines }
 
+-- the context that a pass was given
 abbrev pub context : PassView → Context
 context v = record { attacker = v.attacker; barred = v.barred; lines = length v.places }
 
@@ -89,12 +95,14 @@ pub record Passes (k : Context) (v : PassView) : Type 0 where
   pub live : v.spent ≡ false → (v.attacker ≡ k.attacker) × (v.barred ≡ k.barred) × (length v.places ≡ k.lines)
   pub spent : v.spent ≡ true → v.places ≡ []
 
+-- there is a count and a slot for each place, each pass has the context or is spent, and the rule of one place holds at each place
 pub record Rule (k : Context) (s : State Line PassView) : Type 0 where
   pub counts : length s.words ≡ k.lines
   pub slots : length s.homes ≡ k.lines
   pub each_pass : (j : ℕ) (v : PassView) → get_elem? s.views j ≡ some v → Passes k v
   pub each_place : (i : ℕ) → i < k.lines → Place k.attacker k.barred (slice_index s.words i) (get_elem? s.homes i) (map (at i) s.views)
 
+-- the rule of a table
 abbrev pub Ruled : Setting → State Line PassView → Type 0
 Ruled k = Rule (told k)
 
@@ -110,12 +118,15 @@ first_view k = record { spent = false; attacker = k.attacker; barred = k.barred.
 abbrev pub IsLive : Setting → PassView → Type 0
 IsLive k v = (v.spent ≡ false) × (v.attacker ≡ k.attacker) × (v.barred ≡ k.barred.items) × (length v.places ≡ k.lines)
 
+-- the pass holds no place
 abbrev pub HoldsNone : PassView → Type 0
 HoldsNone v = (i : ℕ) → (at i v).holds ≡ false
 
+-- the view with what it knows of the place i replaced
 abbrev pub changed : PassView → ℕ → PlaceView → PassView
 changed v i p = record v { places = slice_set v.places i p }
 
+-- the view of the pass that steps, and the lines that it has in hand
 abbrev Mine : Type 0
 Mine = Me Line PassView
 
@@ -123,6 +134,7 @@ Mine = Me Line PassView
 abbrev pub Later : PlaceView → ℕ → Type 0
 Later p c = (p.seen ≤ c) × (p.holds ≡ false → LastBelow p)
 
+-- what a load tells: the count, which is no smaller than the one seen before
 abbrev pub loaded : Step Line → Mine → ℕ → Mine → Type 0
 loaded st m r m' = (m' ≡ (changed m.0 st.word (after_load (at st.word m.0) r), m.1)) × Later (at st.word m.0) r × WasRuled m'.0 st.word r
 
@@ -137,10 +149,12 @@ tried st m r m' =
     → (r ≡ st.first → (l : Line) × IsFor m.0 st.word l × (m' ≡ (changed m.0 st.word (after_take (at st.word m.0) r l), (st.word, l) ∷ m.1)))
     × (r ≢ st.first → (m' ≡ (changed m.0 st.word (after_miss (at st.word m.0) r), m.1)) × Later (at st.word m.0) r × WasRuled m'.0 st.word r)
 
+-- the line in hand
 abbrev pub in_hand : List (ℕ × Line) → Line
 in_hand [] = empty_line
 in_hand (x ∷ xs) = x.1
 
+-- what a giving tells: the line in hand is the line of the place from then on
 abbrev pub gave : Step Line → Mine → ℕ → Mine → Type 0
 gave st m r m' = (m' ≡ (changed m.0 st.word (after_give (at st.word m.0) r (in_hand m.1)), rest m.1)) × WasRuled m'.0 st.word r
 
@@ -148,9 +162,11 @@ gave st m r m' = (m' ≡ (changed m.0 st.word (after_give (at st.word m.0) r (in
 abbrev pub whole : PassView → PassView
 whole v = v
 
+-- what a new pass knows of a place: what the old one knows, but for its takings
 abbrev pub untaken : PlaceView → PlaceView
 untaken p = record p { takings = 0; last = 0; took = empty_line }
 
+-- the view of a new pass
 abbrev pub without_takings : PassView → PassView
 without_takings v = record v { places = map untaken v.places }
 
@@ -158,16 +174,20 @@ without_takings v = record v { places = map untaken v.places }
 abbrev pub newer : Line → Line → Line
 newer a b = if nat_lt (stamp_of a) (stamp_of b) then b else a
 
+-- what two passes know of a place together: the newer line, the larger counts, all takings and steps
 abbrev pub merged : PlaceView → PlaceView → PlaceView
 merged p q = record { kept = newer p.kept q.kept; took = p.took; seen = max p.seen q.seen; takings = p.takings + q.takings; last = max p.last q.last; steps = p.steps + q.steps; kind = p.kind; found = p.found; holds = false }
 
+-- the same, place by place
 abbrev pub merged_all : List PlaceView → List PlaceView → List PlaceView
 merged_all [] qs = []
 merged_all (p ∷ ps) [] = []
 merged_all (p ∷ ps) (q ∷ qs) = merged p q ∷ merged_all ps qs
 
+-- the view of a pass to which another was joined
 abbrev pub joined : PassView → PassView → PassView
 joined v w = record v { places = merged_all v.places w.places }
 
+-- the view of a pass that was joined to another
 abbrev pub spent_view : PassView
 spent_view = record { spent = true; attacker = Gold; barred = []; places = [] }
