@@ -25,16 +25,15 @@ pub label_law : (bytes digits : List ℕ) (letter : ℕ) (side : Color) (n : ℕ
 label_law bytes digits letter side n form of_side number label =
     let here = (number n).0 refl in
     let digits_are : digits ≡ decimal n = here.2 in
-    let written : bytes ≡ decimal n ++ letter ∷ [] = cc in
-    (
+    let written : bytes ≡ decimal n ++ letter ∷ [] = cc in (
       λ e. let same : record { number = n; side = side } ≡ label = cc in
-        subst (IsLabel bytes) same (record { letter = letter; side = of_side; form = written; least = here.0; most = here.1 }),
+          subst (IsLabel bytes) same (record { letter = letter; side = of_side; form = written; least = here.0; most = here.1 }),
       λ h.
-        let parts = snoc_parts digits (decimal label.number) letter h.letter (sym form ∙ h.form) in
-        let letters : letter ≡ h.letter = parts.1 in
-        let sides : Some side ≡ Some label.side = sym of_side ∙ (ap side_of_letter letters ∙ h.side) in
-        let numbers : Some n ≡ Some label.number = (number label.number).1 (h.least, h.most, parts.0) in
-        let side_same : side ≡ label.side = cc in
-        let number_same : n ≡ label.number = cc in
-        λ i. Some (record { number = number_same i; side = side_same i }),
+          let parts = snoc_parts digits (decimal label.number) letter h.letter (sym form ∙ h.form) in
+          let letters : letter ≡ h.letter = parts.1 in
+          let sides : Some side ≡ Some label.side = sym of_side ∙ (ap side_of_letter letters ∙ h.side) in
+          let numbers : Some n ≡ Some label.number = (number label.number).1 (h.least, h.most, parts.0) in
+          let side_same : side ≡ label.side = cc in
+          let number_same : n ≡ label.number = cc in
+          λ i. Some (record { number = number_same i; side = side_same i }),
     )

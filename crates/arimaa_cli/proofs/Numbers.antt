@@ -23,9 +23,9 @@ plain_decimal n small =
       some = some;
       unsigned = omega arith;
       no_zero = λ zero. ⊎_elim
-        (λ (e : n ≡ 0). subst (λ k. length (decimal k) ≡ 1) (sym e) (ap length (decimal_digit 0 (omega arith))))
-        (λ more. absurd (let above : 48 < get_or (decimal n) 0 0 = first_decimal n (omega arith) small in omega arith))
-        (cases_eq n 0);
+          (λ (e : n ≡ 0). subst (λ k. length (decimal k) ≡ 1) (sym e) (ap length (decimal_digit 0 (omega arith))))
+          (λ more. absurd (let above : 48 < get_or (decimal n) 0 0 = first_decimal n (omega arith) small in omega arith))
+          (cases_eq n 0);
     }
 
 module _ (E : Type 0) (bs t : List ℕ) (same : t ≡ bs) (m : ℕ) where
@@ -34,8 +34,7 @@ module _ (E : Type 0) (bs t : List ℕ) (same : t ≡ bs) (m : ℕ) where
       let h : ParsesUnsigned {E = E} 64 10 bs (Ok n) = subst (λ x. ParsesUnsigned {E = E} 64 10 x (Ok n)) same p in
       let q = parse_plain own {E = E} 64 bs (Ok n) h plain.unsigned in
       let written : decimal (digits_value 10 bs) ≡ bs = decimal-digits_value own bs q.0.0 q.0.1 plain.no_zero q.0.2 in
-      let value : n ≡ digits_value 10 bs = q.1 in
-      (
+      let value : n ≡ digits_value 10 bs = q.1 in (
         λ e. let number : n ≡ m = cc in let is : digits_value 10 bs ≡ m = sym value ∙ number in (subst (λ x. x < 2 ^ 64) is q.0.2, sym written ∙ ap decimal is),
         λ w. let r : ◌≡◌ {A = Result ℕ E} (Ok n) (Ok m) = parse-decimal {E = E} 64 m bs (Ok n) w.0 w.0 w.1 h in let number : n ≡ m = cc in ap Some number,
       )

@@ -26,20 +26,19 @@ module _ (bytes line content after word label_text : List ℕ) (e_line : line �
       → (start : StartLine) → (◌≡◌ {A = Option StartLine} (Some (record { label = l; board = board })) (Some start)) ↔ IsStartLine bytes start
   start_law l rest board one_line start_word label e_rest e_board start =
       let boards : board ≡ reading_of (after_item (after_item (trimmed (line_of bytes)))) = e_board ∙ ap reading_of (e_rest ∙ ap after_item afters) in
-      let label_is : IsLabel label_text l = (label l).0 refl in
-      (
+      let label_is : IsLabel label_text l = (label l).0 refl in (
         λ e. let same : record { label = l; board = board } ≡ start = cc in
-          subst (IsStartLine bytes) same (record {
-            one_line = subst (λ x. list_any is_line_end x ≡ false) e_line one_line;
-            word = sym (e_word ∙ ap first_item contents) ∙ start_word;
-            label = subst (λ x. IsLabel x l) labels label_is;
-            board = boards;
-          }),
+            subst (IsStartLine bytes) same (record {
+              one_line = subst (λ x. list_any is_line_end x ≡ false) e_line one_line;
+              word = sym (e_word ∙ ap first_item contents) ∙ start_word;
+              label = subst (λ x. IsLabel x l) labels label_is;
+              board = boards;
+            }),
         λ h.
-          let label_some : Some l ≡ Some start.label = (label start.label).1 (subst (λ x. IsLabel x start.label) (sym labels) h.label) in
-          let label_same : l ≡ start.label = cc in
-          let board_same : board ≡ start.board = boards ∙ sym h.board in
-          λ i. Some (record { label = label_same i; board = board_same i }),
+            let label_some : Some l ≡ Some start.label = (label start.label).1 (subst (λ x. IsLabel x start.label) (sym labels) h.label) in
+            let label_same : l ≡ start.label = cc in
+            let board_same : board ≡ start.board = boards ∙ sym h.board in
+            λ i. Some (record { label = label_same i; board = board_same i }),
       )
 
   pub start_no_label : ((x : Label) → (None ≡ Some x) ↔ IsLabel label_text x) → (start : StartLine) → (None ≡ Some start) ↔ IsStartLine bytes start

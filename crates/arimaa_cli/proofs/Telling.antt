@@ -64,14 +64,14 @@ told_answer asked p No status text right told bytes lawful =
     let alone = sym (barred_alone p) in
     let loses : wins asked.attacker (barred_by (p ∷ [])) asked.depth p ≡ false = subst (λ b. wins asked.attacker b asked.depth p ≡ false) alone right in
     subst (λ s. IsAnswer asked bytes s text) (sym told.0)
-      (subst (λ t. IsAnswer asked bytes Answered t) (sym told.1) (lost (p ∷ []) p lawful refl loses))
+    (subst (λ t. IsAnswer asked bytes Answered t) (sym told.1) (lost (p ∷ []) p lawful refl loses))
 told_answer asked p (Yes rank entry) status text right told bytes lawful =
     let alone = sym (barred_alone p) in
     let exact : IsRank asked.attacker (barred_by (p ∷ [])) p rank = subst (λ b. IsRank asked.attacker b p rank) alone right.0 in
     let lines : text ≡ yes_text rank (strategy_of asked.attacker (barred_by (p ∷ [])) rank p) =
-      told.1 ∙ (win_is rank entry (strategy_of asked.attacker [] rank p) right.2 ∙ ap (λ b. yes_text rank (strategy_of asked.attacker b rank p)) alone) in
+    told.1 ∙ (win_is rank entry (strategy_of asked.attacker [] rank p) right.2 ∙ ap (λ b. yes_text rank (strategy_of asked.attacker b rank p)) alone) in
     subst (λ s. IsAnswer asked bytes s text) (sym told.0)
-      (subst (λ t. IsAnswer asked bytes Done t) (sym lines) (won (p ∷ []) p rank lawful refl exact right.1))
+    (subst (λ t. IsAnswer asked bytes Done t) (sym lines) (won (p ∷ []) p rank lawful refl exact right.1))
 
 -- an answer that tells a right verdict
 pub told_ok : (r : Result Answer AllocError) (asked : Asked) (p : Position) (v : Verdict) → IsVerdict asked.attacker [] asked.depth p v
@@ -100,7 +100,7 @@ bad_start-is = let one : decimal 1 ≡ 49 ∷ [] = decimal_digit 1 (omega arith)
 pub refused_answer : (asked : Asked) (bytes : List ℕ) (start : StartLine) (fault : BoardFault) → IsStartLine bytes start → start.board ≡ Err fault → IsAnswer asked bytes Answered bad_start
 refused_answer asked bytes start fault is refused =
     subst (IsAnswer asked bytes Answered) (sym bad_start-is)
-      (bad 1 first_label (codes "start") (record { start = start; fault = fault; line = is; refused = refused; first = refl; label = refl; word = refl }))
+    (bad 1 first_label (codes "start") (record { start = start; fault = fault; line = is; refused = refused; first = refl; label = refl; word = refl }))
 
 -- the board of a start line is fit
 pub start_fit : (bytes : List ℕ) (start : StartLine) (board : Board) → IsStartLine bytes start → start.board ≡ Ok board → IsFit board

@@ -74,9 +74,9 @@ module _ (a : Color) (barred : List Position) where
   won-not_met p won =
       elim (same_color p.side a) as (λ v. same_color p.side a ≡ v → (cond v (filter (λ q. is_none (decided q)) (p ∷ [])) (open_replies barred p)) ≡ []) [
         | true ↦ λ own. elim (decided p) as (λ o. settled_for a p o (next barred p) false ≡ true → cond (is_none o) (p ∷ []) [] ≡ []) [
-            | Some e ↦ λ _. refl
-            | None ↦ λ h. let parts = won_cases p None (next barred p) h refl in absurd (true≢false (sym own ∙ parts.1))
-          ] won
+          | Some e ↦ λ _. refl
+          | None ↦ λ h. let parts = won_cases p None (next barred p) h refl in absurd (true≢false (sym own ∙ parts.1))
+        ] won
         | false ↦ λ _. won-no_replies p won
       ] refl
 
@@ -188,7 +188,7 @@ module _ (a : Color) (barred : List Position) where
   unfolding strategy_of
   other-strategy p undecided other won =
       let all : list_all (wins a barred 0) (next barred p) ≡ true =
-        sym (one_more p undecided ∙ (ap (λ v. settled_for a p None (next barred p) (wins_among v (wins a barred 0) (next barred p))) other ∙ other_settled p (next barred p) other)) ∙ won in
+      sym (one_more p undecided ∙ (ap (λ v. settled_for a p None (next barred p) (wins_among v (wins a barred 0) (next barred p))) other ∙ other_settled p (next barred p) other)) ∙ won in
       let none : filter (λ q. is_none (decided q)) (next barred p) ≡ [] = none-filter (λ q. is_none (decided q)) (next barred p) (λ q i. reply_decided p q other i (all-In (wins a barred 0) q (next barred p) all i)) in
       let first : first_met a barred p ≡ [] = rw (other, undecided, none) refl in
       let met_zero : met a barred 1 p 0 ≡ [] = rw first refl in

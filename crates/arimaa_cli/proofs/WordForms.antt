@@ -21,16 +21,15 @@ form_law ws p s d a n l get0 get1 get2 name side depth asked =
     let all : ws ≡ p ∷ s ∷ d ∷ [] = three ws p s d l get0 get1 get2 in
     let side_is : s ≡ side_word a = (side a).0 refl in
     let depth_is = (depth n).0 refl in
-    let form : ws ≡ codes "prove" ∷ side_word a ∷ decimal n ∷ [] = cc in
-    (
+    let form : ws ≡ codes "prove" ∷ side_word a ∷ decimal n ∷ [] = cc in (
       λ e. let same : record { attacker = a; depth = n } ≡ asked = cc in subst (AsksProve ws) same (record { form = form; in_range = depth_is.0 }),
       λ h.
-        let lists : p ∷ s ∷ d ∷ [] ≡ codes "prove" ∷ side_word asked.attacker ∷ decimal asked.depth ∷ [] = sym all ∙ h.form in
-        let s_is : s ≡ side_word asked.attacker = cc in
-        let d_is : d ≡ decimal asked.depth = cc in
-        let a_is : Some a ≡ Some asked.attacker = (side asked.attacker).1 s_is in
-        let n_is : Some n ≡ Some asked.depth = (depth asked.depth).1 (h.in_range, d_is) in
-        let a_same : a ≡ asked.attacker = cc in
-        let n_same : n ≡ asked.depth = cc in
-        λ i. Some (record { attacker = a_same i; depth = n_same i }),
+          let lists : p ∷ s ∷ d ∷ [] ≡ codes "prove" ∷ side_word asked.attacker ∷ decimal asked.depth ∷ [] = sym all ∙ h.form in
+          let s_is : s ≡ side_word asked.attacker = cc in
+          let d_is : d ≡ decimal asked.depth = cc in
+          let a_is : Some a ≡ Some asked.attacker = (side asked.attacker).1 s_is in
+          let n_is : Some n ≡ Some asked.depth = (depth asked.depth).1 (h.in_range, d_is) in
+          let a_same : a ≡ asked.attacker = cc in
+          let n_same : n ≡ asked.depth = cc in
+          λ i. Some (record { attacker = a_same i; depth = n_same i }),
     )

@@ -21,18 +21,18 @@ use Rattle.arimaa_cli.specs.Words.{AsksProve}
 pub data IsAnswer (asked : Asked) (bytes : List ℕ) : Status → List ℕ → Type 0 where
   -- the first fault of an unlawful record
   bad : (number : ℕ) (due : Label) (rule : List ℕ) → IsBadRecord bytes number due rule
-    → IsAnswer asked bytes Answered (bad_text number due rule)
+      → IsAnswer asked bytes Answered (bad_text number due rule)
   -- the attacker doesn't win within so many turns
   lost : (history : List Position) (p : Position) → IsLawfulRecord bytes history → present history ≡ Some p
-    → wins asked.attacker (barred_by history) asked.depth p ≡ false
-    → IsAnswer asked bytes Answered (line (codes "no"))
+      → wins asked.attacker (barred_by history) asked.depth p ≡ false
+      → IsAnswer asked bytes Answered (line (codes "no"))
   -- the attacker wins: the rank of the position, and its strategy
   won : (history : List Position) (p : Position) (rank : ℕ) → IsLawfulRecord bytes history → present history ≡ Some p
-    → IsRank asked.attacker (barred_by history) p rank → rank ≤ asked.depth
-    → IsAnswer asked bytes Done (yes_text rank (strategy_of asked.attacker (barred_by history) rank p))
+      → IsRank asked.attacker (barred_by history) p rank → rank ≤ asked.depth
+      → IsAnswer asked bytes Done (yes_text rank (strategy_of asked.attacker (barred_by history) rank p))
   -- the input is no start line: other records aren't built yet
   unbuilt : ((start : StartLine) → IsStartLine bytes start → ⊥)
-    → IsAnswer asked bytes NotBuilt (line (codes "not built"))
+      → IsAnswer asked bytes NotBuilt (line (codes "not built"))
 
 -- what prove answers to words over an input of these bytes
 pub data IsDefined (words : List (List ℕ)) (given : List ℕ) : Status → List ℕ → Type 0 where
@@ -44,7 +44,7 @@ pub data IsDefined (words : List (List ℕ)) (given : List ℕ) : Status → Lis
   long : (asked : Asked) → AsksProve words asked → asked.depth ≤ 1 → INPUT_LIMIT < length given → IsDefined words given TooLong (line (codes "too long"))
   -- the question is answered
   answered : (asked : Asked) → AsksProve words asked → asked.depth ≤ 1 → length given ≤ INPUT_LIMIT
-    → (status : Status) (text : List ℕ) → IsAnswer asked given status text → IsDefined words given status text
+      → (status : Status) (text : List ℕ) → IsAnswer asked given status text → IsDefined words given status text
 
 -- a command ended with this status and wrote its text whole, or a write failed and the text was written in part
 abbrev pub EndsWith : Status → Option (List ℕ) → Option (List ℕ) → Status → List ℕ → Type 0

@@ -4,7 +4,6 @@ ghost use Rattle.std.specs.List.{list_any, prefix_len};
 ghost use Rattle.arimaa_cli.specs.StartLine.{is_blank, is_line_end, is_item_byte, line_of, without_first_blanks, trimmed, first_item, after_item, IsStartLine};
 ghost use Rattle.arimaa_cli.specs.declared.start_line.StartLine.{StartLine as Start};
 
-
 use crate::label::{Label, read_label};
 use arimaa_board::{Board, BoardFault, read_board};
 
@@ -56,7 +55,11 @@ fn blanks_after(bytes: &[u8]) -> usize
     ensures value { result ≡ prefix_len is_blank (reverse bytes.now) }
     ensures bound { result ≤ length bytes.now }
 {
-    bytes.iter().rev().take_while(|byte| is_blank(**byte)).count()
+    bytes
+        .iter()
+        .rev()
+        .take_while(|byte| is_blank(**byte))
+        .count()
 }
 
 // How long the first item is, which ends before the first blank.

@@ -25,8 +25,7 @@ returns-then-asked-gt-MOST_BUILT-clause-answer g c = λ given told no_fault memo
 
 pub returns-in-Err-TooLong-clause-answer : goal.returns-in-Err-TooLong-clause-answer
 returns-in-Err-TooLong-clause-answer g c = λ given told no_fault memory.
-    let many : INPUT_LIMIT < length given = subst (λ o. IfSome o (λ left. INPUT_LIMIT < length left)) told (c.in-Err-TooLong.ensures.too_long (ap Err c.in-Err-TooLong.field-0-is)) in
-    (
+    let many : INPUT_LIMIT < length given = subst (λ o. IfSome o (λ left. INPUT_LIMIT < length left)) told (c.in-Err-TooLong.ensures.too_long (ap Err c.in-Err-TooLong.field-0-is)) in (
       outcome.TooLong,
       line (codes "too long"),
       long c.in-Some.asked ((c.in-Some.ensures c.in-Some.asked).0 refl) c.if-asked-gt-MOST_BUILT.false many,
@@ -40,9 +39,8 @@ returns-clause-answer g c = λ given told no_fault memory.
     let size : length c.deref.result.now ≡ length given = ap length bytes in
     let few : length given ≤ INPUT_LIMIT = omega (arith, c.deref.ensures.len, c.in-Ok.ensures.limit) in
     let answer : IsAnswer c.in-Some.asked given c.in-Ok-answer_to.answer.status c.in-Ok-answer_to.answer.text.items =
-      subst (λ b. IsAnswer c.in-Some.asked b c.in-Ok-answer_to.answer.status c.in-Ok-answer_to.answer.text.items) bytes c.in-Ok-answer_to.ensures in
-    let ends = subst (EndsWith c.say-in-Ok-answer_to.result (g.O.Sink.contents c.args.output.now) (g.O.Sink.contents c.say-in-Ok-answer_to.new.output) c.in-Ok-answer_to.answer.status) c.deref-in-Ok-answer_to.ensures.value c.say-in-Ok-answer_to.ensures.ends in
-    (
+    subst (λ b. IsAnswer c.in-Some.asked b c.in-Ok-answer_to.answer.status c.in-Ok-answer_to.answer.text.items) bytes c.in-Ok-answer_to.ensures in
+    let ends = subst (EndsWith c.say-in-Ok-answer_to.result (g.O.Sink.contents c.args.output.now) (g.O.Sink.contents c.say-in-Ok-answer_to.new.output) c.in-Ok-answer_to.answer.status) c.deref-in-Ok-answer_to.ensures.value c.say-in-Ok-answer_to.ensures.ends in (
       c.in-Ok-answer_to.answer.status,
       c.in-Ok-answer_to.answer.text.items,
       answered c.in-Some.asked ((c.in-Some.ensures c.in-Some.asked).0 refl) c.if-asked-gt-MOST_BUILT.false few c.in-Ok-answer_to.answer.status c.in-Ok-answer_to.answer.text.items answer,

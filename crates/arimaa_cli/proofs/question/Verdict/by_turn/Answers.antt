@@ -27,11 +27,12 @@ returns-in-Some c =
     let barred = c.args.barred.now in
     let turn = c.in-Some.turn in
     let b = brings _ p turn c.in-Some.ensures.wanted in
-    let won : wins a barred 1 p ≡ true = own-one a barred p c.requires.undecided c.requires.own ∙ sym c.in-Some.ensures.some in
-    (
+    let won : wins a barred 1 p ≡ true = own-one a barred p c.requires.undecided c.requires.own ∙ sym c.in-Some.ensures.some in (
       next_rank a barred p c.requires.not_yet won,
       omega arith,
-      (record { position = p; rank = 1; steps = turn },
-      record { position = refl; rank = refl; turn = c.noted.ensures },
-      own-strategy a barred p turn b.reached c.requires.fit.size c.requires.undecided c.requires.own c.requires.not_yet (sym c.in-Some.ensures.first) b.is (second _ _ b.passed)),
+      (
+        record { position = p; rank = 1; steps = turn },
+        record { position = refl; rank = refl; turn = c.noted.ensures },
+        own-strategy a barred p turn b.reached c.requires.fit.size c.requires.undecided c.requires.own c.requires.not_yet (sym c.in-Some.ensures.first) b.is (second _ _ b.passed),
+      ),
     )

@@ -1,0 +1,10 @@
+//! Worked examples: what the commands answer to words and inputs that were worked out by hand from the
+//! rules, and what they do where the outside fails. There is nothing here but tests.
+#![tactic(auto)]
+
+#[cfg(test)]
+mod faults;
+#[cfg(test)]
+mod rows;
+#[cfg(test)]
+mod runs;

@@ -1,0 +1,256 @@
+//! What `prove` answers over one start line.
+use crate::runs::{Outside, run};
+use arimaa_outside::Status;
+use std::test::Fail;
+
+// One example: the words, the input, and the output and status that are wanted.
+struct Row<'a> {
+    words: &'a str,
+    input: &'a str,
+    output: &'a str,
+    status: Status,
+}
+
+const ROWS: [Row<'static>; 28] = [
+    // the elephant's steps come first and win nothing
+    Row {
+        words: "prove gold 1",
+        input: "start 2g [        R      r                   E                            ]\n",
+        output: "yes 1\nstrategy\n1 [        R      r                   E                            ] Ra7n\n",
+        status: Status::Done,
+    },
+    // the rabbit is frozen, and no turn frees it and still reaches the goal
+    Row {
+        words: "prove gold 1",
+        input: "start 2g [        Re     r                   E                            ]\n",
+        output: "no\n",
+        status: Status::Answered,
+    },
+    // a frozen rabbit is all that Silver has: it can't move
+    Row {
+        words: "prove gold 0",
+        input: "start 2s [                        r       H                              R]\n",
+        output: "yes 0\nstrategy\n",
+        status: Status::Done,
+    },
+    // nothing is barred: Silver may step back
+    Row {
+        words: "prove gold 0",
+        input: "start 3s [                        rR       H                              ]\n",
+        output: "no\n",
+        status: Status::Answered,
+    },
+    // two turns are not built yet
+    Row {
+        words: "prove gold 2",
+        input: "start 2g [        R      r                   E                            ]\n",
+        output: "not built\n",
+        status: Status::NotBuilt,
+    },
+    // nor are twenty
+    Row {
+        words: "prove silver 20",
+        input: "start 2g [        R      r                   E                            ]\n",
+        output: "not built\n",
+        status: Status::NotBuilt,
+    },
+    // pushes and pulls are in reach, and change nothing
+    Row {
+        words: "prove gold 1",
+        input: "start 2g [        R                    r     E                            ]\n",
+        output: "yes 1\nstrategy\n1 [        R                    r     E                            ] Ra7n\n",
+        status: Status::Done,
+    },
+    // pushes and pulls are out of reach
+    Row {
+        words: "prove gold 1",
+        input: "start 2g [        R                     r    E                            ]\n",
+        output: "yes 1\nstrategy\n1 [        R                     r    E                            ] Ra7n\n",
+        status: Status::Done,
+    },
+    // a cat stands on a trap alone
+    Row {
+        words: "prove gold 1",
+        input: "start 2g [       r                                  C             R       ]\n",
+        output: "bad 1 1g start\n",
+        status: Status::Answered,
+    },
+    // an empty input is no start line
+    Row {
+        words: "prove gold 1",
+        input: "",
+        output: "not built\n",
+        status: Status::NotBuilt,
+    },
+    // the last silver rabbit is pushed onto a trap
+    Row {
+        words: "prove gold 1",
+        input: "start 2g [       h           Er                                   R       ]\n",
+        output: "yes 1\nstrategy\n1 [       h           Er                                   R       ] re6e rf6x Ed6e\n",
+        status: Status::Done,
+    },
+    // Silver to move: Gold's rabbit is at home
+    Row {
+        words: "prove gold 0",
+        input: "start 2s [R              r                                                ]\n",
+        output: "yes 0\nstrategy\n",
+        status: Status::Done,
+    },
+    // and Silver has lost
+    Row {
+        words: "prove silver 1",
+        input: "start 2s [R              r                                                ]\n",
+        output: "no\n",
+        status: Status::Answered,
+    },
+    // Silver goes home
+    Row {
+        words: "prove silver 1",
+        input: "start 2s [                           e                    R      r        ]\n",
+        output: "yes 1\nstrategy\n1 [                           e                    R      r        ] rh2s\n",
+        status: Status::Done,
+    },
+    // in no turn it isn't there
+    Row {
+        words: "prove silver 0",
+        input: "start 2s [                           e                    R      r        ]\n",
+        output: "no\n",
+        status: Status::Answered,
+    },
+    // and Gold does not win
+    Row {
+        words: "prove gold 1",
+        input: "start 2s [                           e                    R      r        ]\n",
+        output: "no\n",
+        status: Status::Answered,
+    },
+    // blanks before, between and after, an older letter, no line feed
+    Row {
+        words: "prove gold 1",
+        input: " \tstart \t 2w\t[        R      r                   E                            ] \t",
+        output: "yes 1\nstrategy\n1 [        R      r                   E                            ] Ra7n\n",
+        status: Status::Done,
+    },
+    // the greatest label
+    Row {
+        words: "prove gold 1",
+        input: "start 999999999g [        R      r                   E                            ]\n",
+        output: "yes 1\nstrategy\n1 [        R      r                   E                            ] Ra7n\n",
+        status: Status::Done,
+    },
+    // a label above it
+    Row {
+        words: "prove gold 1",
+        input: "start 1000000000g [        R      r                   E                            ]\n",
+        output: "not built\n",
+        status: Status::NotBuilt,
+    },
+    // a label of 0
+    Row {
+        words: "prove gold 1",
+        input: "start 0g [        R      r                   E                            ]\n",
+        output: "not built\n",
+        status: Status::NotBuilt,
+    },
+    // a label with a zero before it
+    Row {
+        words: "prove gold 1",
+        input: "start 02g [        R      r                   E                            ]\n",
+        output: "not built\n",
+        status: Status::NotBuilt,
+    },
+    // no blank after the label
+    Row {
+        words: "prove gold 1",
+        input: "start 2g[        R      r                   E                            ]\n",
+        output: "not built\n",
+        status: Status::NotBuilt,
+    },
+    // another word
+    Row {
+        words: "prove gold 1",
+        input: "begin 2g [        R      r                   E                            ]\n",
+        output: "not built\n",
+        status: Status::NotBuilt,
+    },
+    // a carriage return
+    Row {
+        words: "prove gold 1",
+        input: "start 2g [        R      r                   E                            ]\r\n",
+        output: "not built\n",
+        status: Status::NotBuilt,
+    },
+    // a second line
+    Row {
+        words: "prove gold 1",
+        input: "start 2g [        R      r                   E                            ]\n\n",
+        output: "not built\n",
+        status: Status::NotBuilt,
+    },
+    // no board text
+    Row {
+        words: "prove gold 1",
+        input: "start 2g\n",
+        output: "bad 1 1g start\n",
+        status: Status::Answered,
+    },
+    // a board text that is too short
+    Row {
+        words: "prove gold 1",
+        input: "start 2g [Ra7]\n",
+        output: "bad 1 1g start\n",
+        status: Status::Answered,
+    },
+    // a ninth gold rabbit
+    Row {
+        words: "prove gold 1",
+        input: "start 2g [       r                                        R       RRRRRRRR]\n",
+        output: "bad 1 1g start\n",
+        status: Status::Answered,
+    },
+];
+
+// Words that are not in the form of the command.
+const BAD_WORDS: [&str; 11] = [
+    "",
+    "prove",
+    "prove gold",
+    "judge",
+    "prove Gold 1",
+    "prove gold 01",
+    "prove gold +1",
+    "prove gold 21",
+    "prove gold 1 1",
+    "prove gold 1 --workers 2",
+    "prove gold one",
+];
+
+#[test]
+fn one_start_line(rt: HostRuntime) -> Result<(), Fail> {
+    for row in &ROWS {
+        let done = run(&rt, row.words, &Outside::plain(row.input.as_bytes()))?;
+        assert_eq!(rt; done.status, row.status, "{}: {}", row.words, row.input);
+        assert_eq!(rt;
+            done.output.as_slice(),
+            row.output.as_bytes(),
+            "{}: {}",
+            row.words,
+            row.input
+        );
+    }
+    Ok(())
+}
+
+#[test]
+fn bad_words(rt: HostRuntime) -> Result<(), Fail> {
+    for words in &BAD_WORDS {
+        let done = run(&rt, words, &Outside::plain(b"start"))?;
+        assert_eq!(rt; done.status, Status::Words, "{words}");
+        assert_eq!(rt;
+            done.output.as_slice(),
+            b"bad words\n".as_slice(),
+            "{words}"
+        );
+    }
+    Ok(())
+}

@@ -1,0 +1,65 @@
+//! One run of `prove` over objects in memory.
+use arimaa_cli::run_prove;
+use arimaa_outside::{CommandWords, MemSink, MemSource, Status};
+use std::alloc::{AllocError, Global};
+use std::test::Fail;
+use std::thread::Threads;
+
+// What the outside gives and takes in a run.
+#[derive(Clone, Copy)]
+pub struct Outside<'a> {
+    // The bytes that the source gives.
+    pub input: &'a [u8],
+    // The most that one read gives, and the number of the read that fails, from 1; 0 for none.
+    pub read_piece: usize,
+    pub failing_read: u64,
+    // The same of writes.
+    pub write_piece: usize,
+    pub failing_write: u64,
+}
+
+impl<'a> Outside<'a> {
+    // Nothing fails.
+    pub fn plain(input: &'a [u8]) -> Self {
+        Outside {
+            input,
+            read_piece: 1 << 20,
+            failing_read: 0,
+            write_piece: 1 << 20,
+            failing_write: 0,
+        }
+    }
+}
+
+// How a run ended, and what it wrote.
+#[derive(Drop)]
+pub struct Done {
+    pub status: Status,
+    pub output: Vec<u8>,
+}
+
+// The command that these words ask for, with one blank between each two.
+pub fn run<R: Threads + Sync + AllocGlobal>(
+    rt: &R,
+    words: &str,
+    run: &Outside<'_>,
+) -> Result<Done, Fail> {
+    let alloc = rt.alloc();
+    let mut list = CommandWords::new(alloc);
+    for word in words.split_whitespace() {
+        list.push(word)?;
+    }
+    let bytes = Vec::from_slice(alloc, run.input)?;
+    let failing_reads = vec![in alloc; run.failing_read]?;
+    let failing_writes = vec![in alloc; run.failing_write]?;
+    let mut source = MemSource::new(bytes, run.read_piece.max(1), failing_reads);
+    let mut sink = MemSink::new(alloc, run.write_piece.max(1), failing_writes);
+    let status = run_prove(rt, alloc, &list, &mut source, &mut sink);
+    let output = Vec::from_slice(alloc, sink.written())?;
+    Ok(Done { status, output })
+}
+
+// So many spaces.
+pub fn spaces(alloc: Global, count: usize) -> Result<Vec<u8>, AllocError> {
+    vec![in alloc; b' '; count]
+}
