@@ -1,5 +1,5 @@
 -- A label from its parts.
-use Rattle.std.proofs.Common.{◌≡◌, ◌≤◌, ℕ, ◌<◌, suc, List, [], ◌∷◌, ◌++◌, length, None, Some, Option, sym, ◌∙◌, ap, subst, arith, refl, length-append}
+use Rattle.std.proofs.Common.{◌≡◌, ◌≤◌, ℕ, suc, List, [], ◌∷◌, ◌++◌, length, Some, Option, sym, ◌∙◌, ap, subst, arith, refl, length-append}
 use Rattle.std.specs.Prelude.{◌↔◌}
 use Rattle.std.specs.Fmt.{decimal}
 use Rattle.arimaa_board.specs.declared.piece.Color.{Color}

@@ -5,3 +5,4 @@ pub mod StartForms
 pub mod Won
 pub mod Marked
 pub mod Telling
+pub mod Agreeing

@@ -1,8 +1,6 @@
 -- A turn with its marks, from its steps and its marks.
-use Rattle.std.proofs.Common.{◌≡◌, ℕ, ◌<◌, ◌≤◌, suc, List, [], ◌∷◌, map, length, Option, None, Some, Bool, true, false, IsTrue, ◌&&◌, refl, sym, ◌∙◌, ap, arith, true≢false}
-use Rattle.std.specs.Prelude.{nat_le}
+use Rattle.std.proofs.Common.{◌≡◌, ◌<◌, suc, List, [], ◌∷◌, length, None, Some, Bool, true, false, ◌&&◌, refl, sym, ◌∙◌, ap, arith, true≢false}
 use Rattle.std.specs.Option.{option_map_or}
-use Rattle.std.proofs.lemmas.Bool.{and_parts}
 use Rattle.arimaa_board.specs.declared.board.Board.{Board}
 use Rattle.arimaa_board.specs.declared.piece.Color.{Color}
 use Rattle.arimaa_board.specs.declared.position.Position.{Position}

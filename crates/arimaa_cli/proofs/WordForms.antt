@@ -1,5 +1,5 @@
 -- The words of prove, from its parts.
-use Rattle.std.proofs.Common.{◌≡◌, ◌≤◌, ℕ, List, [], ◌∷◌, length, None, Some, Option, sym, ◌∙◌, ap, subst, arith, refl}
+use Rattle.std.proofs.Common.{◌≡◌, ◌≤◌, ℕ, List, [], ◌∷◌, length, Some, Option, sym, ◌∙◌, subst, arith, refl}
 use Rattle.std.specs.Prelude.{◌↔◌, codes, slice_get}
 use Rattle.std.specs.Fmt.{decimal}
 use Rattle.arimaa_board.specs.declared.piece.Color.{Color}

@@ -6,3 +6,4 @@ pub mod Texts
 pub mod Judged
 pub mod Answers
 pub mod Verdicts
+pub mod Agreement

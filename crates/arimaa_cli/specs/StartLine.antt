@@ -1,5 +1,5 @@
 -- The line that gives a start position: the word start, a label, and the rest of the line as a board's text.
-use Rattle.std.specs.Prelude.{◌≡◌, ℕ, ◌-◌, ◌==◌, Bool, ◌||◌, not, List, [], ◌∷◌, codes, drop, length, reverse, take, false, if◌then◌else◌, slice_index}
+use Rattle.std.specs.Prelude.{◌≡◌, ℕ, ◌-◌, ◌==◌, Bool, ◌||◌, not, List, codes, drop, length, reverse, take, false, if◌then◌else◌, slice_index}
 use Rattle.std.specs.List.{list_any, prefix_len}
 use Rattle.arimaa_board.specs.Text.{reading_of}
 use Rattle.arimaa_cli.specs.Label.{IsLabel}

@@ -3,6 +3,7 @@
 
 mod answering;
 mod label;
+mod laws;
 mod number;
 mod prove;
 mod question;
@@ -10,6 +11,7 @@ mod start_line;
 mod words;
 
 pub use label::{Label, MOST_LABEL, read_label};
+pub use laws::answers_agree;
 pub use number::read_number;
 pub use prove::run_prove;
 pub use question::{Entry, Verdict};

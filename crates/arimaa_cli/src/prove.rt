@@ -1,5 +1,5 @@
 //! The command `prove`.
-ghost use Rattle.std.specs.Prelude.{◌≡◌, ◌≢◌, ◌<◌, ◌≤◌, ◌⊎◌, ℕ, List, Some, IfOk, [], length, option_map};
+ghost use Rattle.std.specs.Prelude.{◌≡◌, ◌≢◌, ◌<◌, ◌≤◌, ◌⊎◌, ℕ, List, Some, IfOk, IfSome, [], length, option_map};
 ghost use Rattle.arimaa_outside.specs.Faults.{HasRisen};
 ghost use Rattle.arimaa_outside.specs.declared.status.Status.{Status as Ended};
 ghost use Rattle.arimaa_outside.specs.declared.status.Status.TheVariants as outcome;
@@ -9,7 +9,9 @@ ghost use Rattle.arimaa_cli.specs.declared.words.Asked.{Asked as Question};
 
 use crate::answering::answer_to;
 use crate::words::read_prove;
-use arimaa_outside::{CommandWords, ReadAll, Sink, Source, Status, read_all, write_all};
+use arimaa_outside::{
+    CommandWords, INPUT_LIMIT, ReadAll, Sink, Source, Status, read_all, write_all,
+};
 use std::alloc::Global;
 use std::thread::Threads;
 
@@ -51,9 +53,11 @@ pub fn run_prove<R: Threads + Sync, I: Source, O: Sink>(
     ensures words { result ≡ outcome.Words → (asked : Question) → AsksProve words.now asked → ⊥ }
     ensures misworded { ((asked : Question) → AsksProve words.now asked → ⊥) → (result ≡ outcome.Words) ⊎ (result ≡ outcome.WriteFault) }
 
-    // Each failure of the outside is one that was counted in this call.
+    // Each failure of the outside is one that was counted in this call, and an input that is too long
+    // has too many bytes.
     ensures read_fault { result ≡ outcome.ReadFault → HasRisen (I.faults input.old) (I.faults input.new) }
     ensures write_fault { result ≡ outcome.WriteFault → HasRisen (O.faults output.old) (O.faults output.new) }
+    ensures too_long { result ≡ outcome.TooLong → IfSome (I.remaining input.old) (λ left. INPUT_LIMIT < length left) }
     ensures unwritten { (result ≡ outcome.ReadFault) ⊎ (result ≡ outcome.Memory) → O.contents output.new ≡ O.contents output.old }
 
     // An answer says that the input was read to its end.

@@ -1,4 +1,4 @@
-use Rattle.std.proofs.Common.{◌≡◌, List, None, Some, refl}
+use Rattle.std.proofs.Common.{◌≡◌, None, Some, refl}
 use Rattle.std.specs.Prelude.{codes}
 use Rattle.arimaa_outside.specs.declared.status.Status.TheVariants.{Answered, NotBuilt}
 use Rattle.arimaa_cli.specs.Answers.{IsAnswer}

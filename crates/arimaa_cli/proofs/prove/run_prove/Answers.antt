@@ -1,8 +1,8 @@
-use Rattle.std.proofs.Common.{◌≡◌, ◌≤◌, ◌<◌, ℕ, List, Some, length, refl, sym, ◌∙◌, ap, subst, arith}
+use Rattle.std.proofs.Common.{◌≡◌, ◌≤◌, ◌<◌, Some, length, refl, ◌∙◌, ap, subst, arith}
 use Rattle.std.specs.Prelude.{Err, IfSome, codes}
 use Rattle.arimaa_outside.specs.declared.source.TheConstants.{INPUT_LIMIT}
 use Rattle.arimaa_outside.specs.declared.status.Status.TheVariants as outcome
-use Rattle.arimaa_cli.specs.Answers.{IsAnswer, IsDefined, EndsWith}
+use Rattle.arimaa_cli.specs.Answers.{IsAnswer, EndsWith}
 use Rattle.arimaa_cli.specs.Answers.IsDefined.{misworded, deep, long, answered}
 use Rattle.arimaa_cli.specs.Texts.{line}
 use Rattle.arimaa_cli.proofs.prove.run_prove.Goals as goal
