@@ -6,3 +6,4 @@ pub mod Won
 pub mod Marked
 pub mod Telling
 pub mod Agreeing
+pub mod Saying

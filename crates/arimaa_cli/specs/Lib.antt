@@ -7,3 +7,4 @@ pub mod Judged
 pub mod Answers
 pub mod Verdicts
 pub mod Agreement
+pub mod Headline

@@ -4,6 +4,7 @@ ghost use Rattle.arimaa_outside.specs.Faults.{HasRisen};
 ghost use Rattle.arimaa_outside.specs.declared.status.Status.{Status as Ended};
 ghost use Rattle.arimaa_outside.specs.declared.status.Status.TheVariants as outcome;
 ghost use Rattle.arimaa_cli.specs.Answers.{IsAnswer, IsDefined, EndsWith};
+ghost use Rattle.arimaa_cli.specs.Headline.{SaysYes, SaysNo, SaysBad, SaysUnbuilt, Gained};
 ghost use Rattle.arimaa_cli.specs.Words.{AsksProve};
 ghost use Rattle.arimaa_cli.specs.declared.words.Asked.{Asked as Question};
 
@@ -48,6 +49,15 @@ pub fn run_prove<R: Threads + Sync, I: Source, O: Sink>(
     ensures answer { (given : List ℕ) → I.remaining input.old ≡ Some given → result ≢ outcome.ReadFault → result ≢ outcome.Memory
         → (ended : Ended) × (text : List ℕ) × IsDefined words.now given ended text
         × EndsWith result (O.contents output.old) (O.contents output.new) ended text }
+
+    // What each answer says: a forced win with its rank and strategy; none, or the first fault of a
+    // bad record; what isn't built yet.
+    ensures yes { (given : List ℕ) → I.remaining input.old ≡ Some given → result ≡ outcome.Done
+        → Gained (SaysYes words.now given) (O.contents output.old) (O.contents output.new) }
+    ensures no_or_bad { (given : List ℕ) → I.remaining input.old ≡ Some given → result ≡ outcome.Answered
+        → Gained (λ text. SaysNo words.now given text ⊎ SaysBad words.now given text) (O.contents output.old) (O.contents output.new) }
+    ensures not_built { (given : List ℕ) → I.remaining input.old ≡ Some given → result ≡ outcome.NotBuilt
+        → Gained (SaysUnbuilt words.now given) (O.contents output.old) (O.contents output.new) }
 
     // The words alone decide whether they are in form.
     ensures words { result ≡ outcome.Words → (asked : Question) → AsksProve words.now asked → ⊥ }
