@@ -11,7 +11,7 @@ struct Row<'a> {
     status: Status,
 }
 
-const ROWS: [Row<'static>; 28] = [
+const ROWS: [Row<'static>; 29] = [
     // the elephant's steps come first and win nothing
     Row {
         words: "prove gold 1",
@@ -102,6 +102,13 @@ const ROWS: [Row<'static>; 28] = [
         input: "start 2s [R              r                                                ]\n",
         output: "no\n",
         status: Status::Answered,
+    },
+    // the horse freezes the last silver piece, which then can't move
+    Row {
+        words: "prove gold 1",
+        input: "start 2g [                        r               H                      R]\n",
+        output: "yes 1\nstrategy\n1 [                        r               H                      R] Ha3n\n",
+        status: Status::Done,
     },
     // Silver goes home
     Row {
