@@ -1,7 +1,7 @@
 //! `arimaa`: proved answers about the board game Arimaa.
 #![tactic(auto)]
 
-use arimaa_cli::run_prove;
+use arimaa_cli::{run_prove, run_still};
 use arimaa_outside::{CommandWords, Status, StdSink, StdSource};
 use std::alloc::{AllocError, Global};
 use std::process::ExitCode;
@@ -34,7 +34,11 @@ fn run<R: Threads + Sync + Env + AllocGlobal + Input + Print>(rt: &R) -> Status 
         Ok(words) => {
             let mut input = StdSource::new(rt.reader());
             let mut output = StdSink::new(io::writer(rt));
-            run_prove(rt, rt.alloc(), &words, &mut input, &mut output)
+            if words.get(0) == Some("control") {
+                run_still(rt.alloc(), &words, &mut input, &mut output)
+            } else {
+                run_prove(rt, rt.alloc(), &words, &mut input, &mut output)
+            }
         }
         Err(_) => Status::Memory,
     }

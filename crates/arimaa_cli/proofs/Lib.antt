@@ -7,3 +7,4 @@ pub mod Marked
 pub mod Telling
 pub mod Agreeing
 pub mod Saying
+pub mod ControlForms

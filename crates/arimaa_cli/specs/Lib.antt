@@ -8,3 +8,4 @@ pub mod Answers
 pub mod Verdicts
 pub mod Agreement
 pub mod Headline
+pub mod ControlCommand

@@ -2,6 +2,7 @@
 #![tactic(auto)]
 
 mod answering;
+mod control_command;
 mod label;
 mod laws;
 mod number;
@@ -10,6 +11,7 @@ mod question;
 mod start_line;
 mod words;
 
+pub use control_command::run_still;
 pub use label::{Label, MOST_LABEL, read_label};
 pub use laws::answers_agree;
 pub use number::read_number;

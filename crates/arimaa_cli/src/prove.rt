@@ -20,7 +20,7 @@ use std::thread::Threads;
 const MOST_BUILT: u8 = 1;
 
 // Writes the text of an answer, and ends with its status, or with the status of a write that failed.
-fn say<O: Sink>(output: &mut O, status: Status, text: &[u8]) -> Status
+pub(crate) fn say<O: Sink>(output: &mut O, status: Status, text: &[u8]) -> Status
     ensures ends { EndsWith result (O.contents output.old) (O.contents output.new) status text.now }
     ensures fault { (result ≡ status) ⊎ ((result ≡ outcome.WriteFault) × HasRisen (O.faults output.old) (O.faults output.new)) }
 {

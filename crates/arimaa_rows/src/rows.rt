@@ -1,4 +1,4 @@
-//! What `prove` answers over one start line.
+//! What `prove` answers over one start line, and what `control` answers.
 use crate::runs::{Outside, run};
 use arimaa_outside::Status;
 use std::test::Fail;
@@ -11,7 +11,7 @@ struct Row<'a> {
     status: Status,
 }
 
-const ROWS: [Row<'static>; 29] = [
+const ROWS: [Row<'static>; 33] = [
     // the elephant's steps come first and win nothing
     Row {
         words: "prove gold 1",
@@ -215,10 +215,41 @@ const ROWS: [Row<'static>; 29] = [
         output: "bad 1 1g start\n",
         status: Status::Answered,
     },
+    // all six fields of a time control
+    Row {
+        words: "control 0:30/5/100/5/8/4",
+        input: "",
+        output: "0:30/5:00/100/5:00/8:00/4:00\nturn 30000 reserve 300000 percent 100 cap 300000 game 28800000 limit 240000\n",
+        status: Status::Done,
+    },
+    // fields left off, and a game limit in turns
+    Row {
+        words: "control 1m30s/0/50/0/60t",
+        input: "",
+        output: "1:30/0:00/50/0:00/60t/0:00\nturn 90000 reserve 0 percent 50 cap 0 game 60t limit 0\n",
+        status: Status::Done,
+    },
+    // a percent of 101
+    Row {
+        words: "control 1/2/101",
+        input: "",
+        output: "control field 3\n",
+        status: Status::Answered,
+    },
+    // a seventh field
+    Row {
+        words: "control 1/2/3/4/5/6/7",
+        input: "",
+        output: "control field 7\n",
+        status: Status::Answered,
+    },
 ];
 
 // Words that are not in the form of the command.
-const BAD_WORDS: [&str; 11] = [
+const BAD_WORDS: [&str; 14] = [
+    "control",
+    "control -1",
+    "control 1 2",
     "",
     "prove",
     "prove gold",

@@ -1,5 +1,5 @@
-//! One run of `prove` over objects in memory.
-use arimaa_cli::run_prove;
+//! One run of a command over objects in memory.
+use arimaa_cli::{run_prove, run_still};
 use arimaa_outside::{CommandWords, MemSink, MemSource, Status};
 use std::alloc::{AllocError, Global};
 use std::test::Fail;
@@ -54,7 +54,11 @@ pub fn run<R: Threads + Sync + AllocGlobal>(
     let failing_writes = vec![in alloc; run.failing_write]?;
     let mut source = MemSource::new(bytes, run.read_piece.max(1), failing_reads);
     let mut sink = MemSink::new(alloc, run.write_piece.max(1), failing_writes);
-    let status = run_prove(rt, alloc, &list, &mut source, &mut sink);
+    let status = if list.get(0) == Some("control") {
+        run_still(alloc, &list, &mut source, &mut sink)
+    } else {
+        run_prove(rt, alloc, &list, &mut source, &mut sink)
+    };
     let output = Vec::from_slice(alloc, sink.written())?;
     Ok(Done { status, output })
 }
