@@ -1,15 +1,7 @@
-//! What `prove` answers over one start line, and what `control` answers.
-use crate::runs::{Outside, run};
+//! What `prove` answers over one start line, what `control` answers, and words out of form.
+use crate::runs::{Outside, Row, check, run};
 use arimaa_outside::Status;
 use std::test::Fail;
-
-// One example: the words, the input, and the output and status that are wanted.
-struct Row<'a> {
-    words: &'a str,
-    input: &'a str,
-    output: &'a str,
-    status: Status,
-}
 
 const ROWS: [Row<'static>; 33] = [
     // the elephant's steps come first and win nothing
@@ -75,12 +67,12 @@ const ROWS: [Row<'static>; 33] = [
         output: "bad 1 1g start\n",
         status: Status::Answered,
     },
-    // an empty input is no start line
+    // an empty input
     Row {
         words: "prove gold 1",
         input: "",
-        output: "not built\n",
-        status: Status::NotBuilt,
+        output: "no position\n",
+        status: Status::Answered,
     },
     // the last silver rabbit is pushed onto a trap
     Row {
@@ -149,50 +141,50 @@ const ROWS: [Row<'static>; 33] = [
     Row {
         words: "prove gold 1",
         input: "start 1000000000g [        R      r                   E                            ]\n",
-        output: "not built\n",
-        status: Status::NotBuilt,
+        output: "bad 1 1g text\n",
+        status: Status::Answered,
     },
     // a label of 0
     Row {
         words: "prove gold 1",
         input: "start 0g [        R      r                   E                            ]\n",
-        output: "not built\n",
-        status: Status::NotBuilt,
+        output: "bad 1 1g text\n",
+        status: Status::Answered,
     },
     // a label with a zero before it
     Row {
         words: "prove gold 1",
         input: "start 02g [        R      r                   E                            ]\n",
-        output: "not built\n",
-        status: Status::NotBuilt,
+        output: "bad 1 1g text\n",
+        status: Status::Answered,
     },
     // no blank after the label
     Row {
         words: "prove gold 1",
         input: "start 2g[        R      r                   E                            ]\n",
-        output: "not built\n",
-        status: Status::NotBuilt,
+        output: "bad 1 1g text\n",
+        status: Status::Answered,
     },
     // another word
     Row {
         words: "prove gold 1",
         input: "begin 2g [        R      r                   E                            ]\n",
-        output: "not built\n",
-        status: Status::NotBuilt,
+        output: "bad 1 1g text\n",
+        status: Status::Answered,
     },
-    // a carriage return
+    // a carriage return before the line feed
     Row {
         words: "prove gold 1",
         input: "start 2g [        R      r                   E                            ]\r\n",
-        output: "not built\n",
-        status: Status::NotBuilt,
+        output: "yes 1\nstrategy\n1 [        R      r                   E                            ] Ra7n\n",
+        status: Status::Done,
     },
-    // a second line
+    // a second line, which is blank
     Row {
         words: "prove gold 1",
         input: "start 2g [        R      r                   E                            ]\n\n",
-        output: "not built\n",
-        status: Status::NotBuilt,
+        output: "yes 1\nstrategy\n1 [        R      r                   E                            ] Ra7n\n",
+        status: Status::Done,
     },
     // no board text
     Row {
@@ -246,14 +238,17 @@ const ROWS: [Row<'static>; 33] = [
 ];
 
 // Words that are not in the form of the command.
-const BAD_WORDS: [&str; 14] = [
+const BAD_WORDS: [&str; 17] = [
     "control",
     "control -1",
     "control 1 2",
     "",
     "prove",
     "prove gold",
-    "judge",
+    "judge 1",
+    "Judge",
+    "show 1",
+    "judge show",
     "prove Gold 1",
     "prove gold 01",
     "prove gold +1",
@@ -265,18 +260,7 @@ const BAD_WORDS: [&str; 14] = [
 
 #[test]
 fn one_start_line(rt: HostRuntime) -> Result<(), Fail> {
-    for row in &ROWS {
-        let done = run(&rt, row.words, &Outside::plain(row.input.as_bytes()))?;
-        assert_eq!(rt; done.status, row.status, "{}: {}", row.words, row.input);
-        assert_eq!(rt;
-            done.output.as_slice(),
-            row.output.as_bytes(),
-            "{}: {}",
-            row.words,
-            row.input
-        );
-    }
-    Ok(())
+    check(&rt, &ROWS)
 }
 
 #[test]

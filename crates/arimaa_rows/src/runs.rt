@@ -1,6 +1,5 @@
-//! One run of a command over objects in memory.
-use arimaa_cli::{run_prove, run_still};
-use arimaa_outside::{CommandWords, MemSink, MemSource, Status};
+//! Runs of commands over objects in memory.
+use arimaa_outside::{CommandWords, MemClock, MemSink, MemSource, MemSpawner, Status};
 use std::alloc::{AllocError, Global};
 use std::test::Fail;
 use std::thread::Threads;
@@ -38,6 +37,30 @@ pub struct Done {
     pub output: Vec<u8>,
 }
 
+// One example: the words, the input, and the output and status that are wanted.
+pub struct Row<'a> {
+    pub words: &'a str,
+    pub input: &'a str,
+    pub output: &'a str,
+    pub status: Status,
+}
+
+// Runs each example.
+pub fn check<R: Threads + Sync + AllocGlobal>(rt: &R, rows: &[Row<'_>]) -> Result<(), Fail> {
+    for row in rows {
+        let done = run(rt, row.words, &Outside::plain(row.input.as_bytes()))?;
+        assert_eq!(rt; done.status, row.status, "{}: {}", row.words, row.input);
+        assert_eq!(rt;
+            done.output.as_slice(),
+            row.output.as_bytes(),
+            "{}: {}",
+            row.words,
+            row.input
+        );
+    }
+    Ok(())
+}
+
 // The command that these words ask for, with one blank between each two.
 pub fn run<R: Threads + Sync + AllocGlobal>(
     rt: &R,
@@ -54,11 +77,17 @@ pub fn run<R: Threads + Sync + AllocGlobal>(
     let failing_writes = vec![in alloc; run.failing_write]?;
     let mut source = MemSource::new(bytes, run.read_piece.max(1), failing_reads);
     let mut sink = MemSink::new(alloc, run.write_piece.max(1), failing_writes);
-    let status = if list.get(0) == Some("control") {
-        run_still(alloc, &list, &mut source, &mut sink)
-    } else {
-        run_prove(rt, alloc, &list, &mut source, &mut sink)
-    };
+    let mut spawner = MemSpawner::new(alloc, Vec::new(alloc), Vec::new(alloc))?;
+    let mut clock = MemClock::new(Vec::new(alloc));
+    let status = arimaa_cli::run(
+        rt,
+        alloc,
+        &list,
+        &mut source,
+        &mut sink,
+        &mut spawner,
+        &mut clock,
+    );
     let output = Vec::from_slice(alloc, sink.written())?;
     Ok(Done { status, output })
 }
