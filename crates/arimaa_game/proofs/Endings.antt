@@ -1,0 +1,112 @@
+-- How a game ends by the rules and by a word, and what a game keeps at hand.
+use Rattle.std.proofs.Common.{◌≡◌, List, [], ◌∷◌, ◌++◌, Option, None, Some, Bool, true, false, cond, refl, sym, ap, subst, ◌∙◌, arith, true≢false}
+use Rattle.std.specs.Prelude.{IsSome, is_some, All, ◌||◌}
+use Rattle.std.specs.List.{filter, list_any}
+use Rattle.std.specs.Option.{option_or}
+use Rattle.std.proofs.lemmas.List.Elements.{All-push}
+use Rattle.arimaa_board.specs.Fit.{IsFit}
+use Rattle.arimaa_board.specs.declared.position.Position.{Position}
+use Rattle.arimaa_model.specs.declared.ending.Ending.{Ending}
+use Rattle.arimaa_model.specs.declared.ending.Word.{Word}
+use Rattle.arimaa_model.specs.Decided.{decided}
+use Rattle.arimaa_model.specs.Game.{closed_by, ended_for, ending, ending_at, lawful_at, present}
+use Rattle.arimaa_history.proofs.Present.{present-push}
+use Rattle.arimaa_game.specs.Play.{Play, IsKept, ending_by, ending_of}
+
+-- a position that is decided has ended the game
+pub ending_at-decided : (h : List Position) (p : Position) (e : Ending) → Some e ≡ decided p → Some e ≡ ending_at h p
+unfolding ending_at
+ending_at-decided h p e is = ap (λ (o : Option Ending). ended_for p o (lawful_at h p)) is
+
+-- another has where no result is left that a turn may bring about
+pub ending_at-undecided : (h : List Position) (p : Position) → None ≡ decided p → ended_for p None (lawful_at h p) ≡ ending_at h p
+unfolding ending_at
+ending_at-undecided h p is = ap (λ (o : Option Ending). ended_for p o (lawful_at h p)) is
+
+-- the ending of a history is that of its present position
+pub ending-present : (h : List Position) (p : Position) → present h ≡ Some p → ending h ≡ ending_at h p
+ending-present h p now = rw now refl
+
+-- a game that goes on has not ended by the rules
+pub running-rules : (g : Play) → ending_of g ≡ None → ending g.history ≡ None
+unfolding ending_of
+running-rules g running = first (ending g.history) (ending_by g.closing (present g.history)) running where
+  first : (o x : Option Ending) → option_or o x ≡ None → o ≡ None
+  first None x e = refl
+  first (Some a) x e = absurd (cc)
+
+-- and no word has closed it
+pub running-unclosed : (g : Play) (p : Position) → present g.history ≡ Some p → ending_of g ≡ None → g.closing ≡ None
+unfolding ending_of
+running-unclosed g p now running =
+    by_word g.closing (ending g.history) (ap (λ (o : Option Position). option_or (ending g.history) (ending_by g.closing o)) (sym now) ∙ running) where
+      by_word : (w : Option Word) (o : Option Ending) → option_or o (ending_by w (Some p)) ≡ None → w ≡ None
+      by_word None o e = refl
+      by_word (Some w) None e = absurd (cc)
+      by_word (Some w) (Some a) e = absurd (cc)
+
+-- a game that no word has closed ends by the rules
+pub unclosed-ending : (h : List Position) (w : Option Word) → w ≡ None → ending h ≡ ending_of (record { history = h; closing = w })
+unfolding ending_of
+unclosed-ending h w none = sym (rw none (alone (ending h))) where
+  alone : (o : Option Ending) → option_or o None ≡ o
+  alone None = refl
+  alone (Some e) = refl
+
+-- a game that the rules had not ended ends by its word
+pub closed-ending : (h : List Position) (p : Position) (w : Word) → present h ≡ Some p → ending h ≡ None → ending_of (record { history = h; closing = Some w }) ≡ Some (closed_by w p.side)
+unfolding ending_of
+closed-ending h p w now running = ap (λ (o : Option Ending). option_or o (ending_by (Some w) (present h))) running ∙ ap (ending_by (Some w)) now
+
+no_word : (w : Option Word) → w ≡ None → IsSome w → ⊥
+no_word None e some = true≢false (sym some)
+no_word (Some w) e some = absurd (cc)
+
+is_present : (o : Option Position) (p : Position) → o ≡ Some p → IsSome o
+is_present o p e = rw e refl
+
+-- what a game keeps after a position was added
+pub kept-grown : (h new : List Position) (w : Option Word) (q : Position) (o : Option Ending) → new ≡ h ++ q ∷ [] → w ≡ None → All (λ (x : Position). IsFit x.board) h → IsFit q.board → o ≡ ending_at new q → IsKept (record { history = new; closing = w }) q o
+kept-grown h new w q o more none fits fit is =
+    let Fits : Position → Type 0 = λ x. IsFit x.board in
+    let now : present new ≡ Some q = ap present more ∙ present-push h q in
+    record {
+      game = record { some = is_present (present new) q now; fit = subst (All Fits) (sym more) (All-push Fits h q fits fit); closing = λ some. absurd (no_word w none some) };
+      present = now;
+      ending = is ∙ (sym (ending-present new q now) ∙ unclosed-ending new w none);
+    }
+
+-- no position, and so none on a board that is not fit
+pub none-fit : (h : List Position) → h ≡ [] → All (λ (x : Position). IsFit x.board) h
+none-fit [] e = λ k d small. absurd (omega arith)
+none-fit (p ∷ h) e = absurd (cc)
+
+-- what a game keeps after a word has closed it
+pub kept-closed : (g : Play) (p : Position) (o : Option Ending) (word : Word) (e : Ending) → IsKept g p o → is_some o ≡ false → e ≡ closed_by word p.side → IsKept (record { history = g.history; closing = Some word }) p (Some e)
+kept-closed g p o word e kept running is =
+    let none : ending g.history ≡ None = running-rules g (sym kept.ending ∙ is_none o running) in
+    record {
+      game = record { some = kept.game.some; fit = kept.game.fit; closing = λ some. none };
+      present = kept.present;
+      ending = ap Some is ∙ sym (closed-ending g.history p word kept.present none);
+    } where
+      is_none : (x : Option Ending) → is_some x ≡ false → x ≡ None
+      is_none None f = refl
+      is_none (Some a) f = absurd (true≢false f)
+
+-- no result is left just where none passes
+pub left-some : (p : Position) (passes : Position → Bool) (qs : List Position) → list_any passes qs ≡ true → None ≡ ended_for p None (filter passes qs)
+left-some p passes [] some = absurd (true≢false (sym some))
+left-some p passes (q ∷ qs) some =
+    elim (passes q) as (λ v. v || list_any passes qs ≡ true → None ≡ ended_for p None (cond v (q ∷ filter passes qs) (filter passes qs))) [
+      | true ↦ λ _. refl
+      | false ↦ λ rest. left-some p passes qs rest
+    ] some
+
+pub left-none : (passes : Position → Bool) (qs : List Position) → list_any passes qs ≡ false → filter passes qs ≡ []
+left-none passes [] none = refl
+left-none passes (q ∷ qs) none =
+    elim (passes q) as (λ v. v || list_any passes qs ≡ false → cond v (q ∷ filter passes qs) (filter passes qs) ≡ []) [
+      | true ↦ λ e. absurd (true≢false e)
+      | false ↦ λ rest. left-none passes qs rest
+    ] none

@@ -1,0 +1,80 @@
+-- A game as contracts see it, and what turns and words do to it.
+use Rattle.std.specs.Prelude.{◌≡◌, List, [], ◌∷◌, ◌++◌, Option, None, Some, Result, Ok, Err, All, IsSome, is_some, nat_le, if◌then◌else◌}
+use Rattle.std.specs.Option.{option_or}
+use Rattle.arimaa_board.specs.Fit.{IsFit}
+use Rattle.arimaa_board.specs.declared.position.Position.{Position}
+use Rattle.arimaa_board.specs.declared.position.Step.{Step}
+use Rattle.arimaa_model.specs.declared.ending.Ending.{Ending}
+use Rattle.arimaa_model.specs.declared.ending.Word.{Word}
+use Rattle.arimaa_model.specs.declared.fault.ApplyFault.{ApplyFault}
+use Rattle.arimaa_model.specs.Faults.{applied}
+use Rattle.arimaa_model.specs.Game.{IsLawful, closed_by, count_in, ending, present}
+use Rattle.arimaa_step.specs.Future.{IsTurnTo}
+use Rattle.arimaa_game.specs.declared.fault.GameFault.{GameFault}
+use Rattle.arimaa_game.specs.declared.fault.GameFault.TheVariants as faults
+use Rattle.arimaa_game.specs.Faults.{fault_of}
+
+-- the positions of a game, the present one last, and the word that closed it, if one did
+pub record Play : Type 0 where
+  pub history : List Position
+  pub closing : Option Word
+
+-- the game that begins with a position
+abbrev pub begun : Position → Play
+begun p = record { history = p ∷ []; closing = None }
+
+-- the game with one more position
+abbrev pub grown : Play → Position → Play
+grown g q = record { history = g.history ++ q ∷ []; closing = g.closing }
+
+-- the game that a word has closed
+abbrev pub closed : Play → Word → Play
+closed g word = record { history = g.history; closing = Some word }
+
+-- the ending by a word, if one closed the game: the side to move has lost
+abbrev pub ending_by : Option Word → Option Position → Option Ending
+ending_by None now = None
+ending_by (Some word) None = None
+ending_by (Some word) (Some p) = Some (closed_by word p.side)
+
+-- how a game has ended, if it has: by the rules, and else by a word
+unfoldable pub ending_of : Play → Option Ending
+ending_of g = option_or (ending g.history) (ending_by g.closing (present g.history))
+
+-- the position that a turn reaches, which may not stand for the third time, or the fault of the turn
+abbrev pub unless_third : List Position → Result Position ApplyFault → Result Position GameFault
+unless_third h (Err e) = Err (fault_of e)
+unless_third h (Ok q) = if nat_le 2 (count_in h q) then Err faults.Repeat else Ok q
+
+-- what a turn from the present position brings about, or its fault
+abbrev pub turned : List Position → Option Position → List Step → Result Position GameFault
+turned h None steps = Err faults.Over
+turned h (Some p) steps = unless_third h (applied p steps)
+
+-- what a turn brings about in a game, or its first fault: that the game has ended comes before all others
+unfoldable pub played : Play → List Step → Result Position GameFault
+played g steps = if is_some (ending_of g) then Err faults.Over else turned g.history (present g.history) steps
+
+-- what holds of every game: there is a present position, each board is fit, and a word closed only what the rules had not ended
+pub record IsGame (g : Play) : Type 0 where
+  pub some : IsSome (present g.history)
+  pub fit : All (λ q. IsFit q.board) g.history
+  pub closing : IsSome g.closing → ending g.history ≡ None
+
+-- what a game keeps at hand is its present position and how it has ended
+pub record IsKept (g : Play) (now : Position) (ended : Option Ending) : Type 0 where
+  pub game : IsGame g
+  pub present : present g.history ≡ Some now
+  pub ending : ended ≡ ending_of g
+
+-- a turn from p brings q about in a game that goes on, and the rules of the game allow q
+pub record BringsAbout (g : Play) (p : Position) (steps : List Step) (q : Position) : Type 0 where
+  pub running : ending_of g ≡ None
+  pub present : present g.history ≡ Some p
+  pub turn : IsTurnTo p steps q
+  pub lawful : IsLawful g.history q
+  pub fit : IsFit q.board
+
+-- a game has gone on by a turn: what the turn brings about stands at the end
+abbrev pub GoesOn : Play → List Step → Play → Type 0
+GoesOn old steps new = (p : Position) × (q : Position) × BringsAbout old p steps q × (new ≡ grown old q)

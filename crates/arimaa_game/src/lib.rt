@@ -1,0 +1,10 @@
+//! Games of Arimaa, turn by turn: which turns may be played, and how a game ends.
+#![tactic(auto)]
+
+mod ending;
+mod fault;
+mod game;
+mod setups;
+
+pub use fault::GameFault;
+pub use game::Game;

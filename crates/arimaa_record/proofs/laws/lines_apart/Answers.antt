@@ -1,0 +1,5 @@
+use Rattle.arimaa_record.proofs.FormLaws.{one_reading}
+use Rattle.arimaa_record.proofs.laws.lines_apart.Goals as goal
+
+pub returns : goal.returns
+returns c = one_reading

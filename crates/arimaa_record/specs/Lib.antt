@@ -1,0 +1,8 @@
+pub mod Number
+pub mod Label
+pub mod Blanks
+pub mod Lines
+pub mod Grammar
+pub mod Written
+pub mod Record
+pub mod Laws

@@ -1,0 +1,182 @@
+//! The reader of lines.
+ghost use Rattle.std.specs.Prelude.{◌≡◌, ◌↔◌, ◌==◌, List, ℕ, [], ◌∷◌, codes, slice_index, IsTrue, Ok, Err, Some};
+ghost use Rattle.arimaa_model.specs.declared.ending.Word.{Word as ClosingWord};
+ghost use Rattle.arimaa_notation.specs.Items.{items_of, IsFirstItem};
+ghost use Rattle.arimaa_record.specs.declared.line.RecordLine.{RecordLine as LineValue};
+ghost use Rattle.arimaa_record.specs.declared.fault.LineFault.{LineFault as FaultValue};
+ghost use Rattle.arimaa_record.specs.Grammar.{text_of_word, IsLabelled, IsStartForm, IsNoOtherContent, IsLineText, IsLineFault, IsLineReading};
+
+use crate::blanks::trim;
+use crate::fault::LineFault;
+use crate::label::{Label, read_label};
+use crate::line::RecordLine;
+use arimaa_board::read_board;
+use arimaa_model::Word;
+use arimaa_notation::{NoteFault, first_item, read_setup, read_turn};
+
+/// What a line of a record says. The bytes are those of the line without its end.
+///
+/// Items are separated by one or more blanks, which may also stand at both ends. A line without
+/// items is `Blank`, and so is a comment, whose first item begins with `#` and which may hold any
+/// bytes. Else the line is `start`, a label, and a board's text, which is the rest of the line; or it
+/// begins with a label, and after it come entries of a setup, or the steps of a turn with their
+/// removal marks, or `resigns` or `time`, or nothing.
+///
+/// `Text` is answered where the line has none of these forms, `Steps` where a turn has more than
+/// four steps, `BadStart` where the board's text is refused, and `BadSetup` where the entries are
+/// no setup of the label's side.
+pub fn read_line(bytes: &[u8]) -> Result<RecordLine, LineFault>
+    ensures line { (l : LineValue) → (result ≡ Ok l) ↔ IsLineText bytes.now l }
+    ensures fault { (f : FaultValue) → (result ≡ Err f) ↔ IsLineFault bytes.now f }
+    ensures reading { IsLineReading bytes.now result }
+{
+    reading(bytes)
+}
+
+// Whether an item begins a comment.
+fn is_comment(item: &[u8]) -> bool
+    ensures { result ≡ (slice_index item.now 0 == 35) }
+{
+    match item {
+        [first, ..] => *first == b'#',
+        [] => false,
+    }
+}
+
+// Whether an item is the word that begins a start line.
+fn is_start(item: &[u8]) -> bool
+    ensures { IsTrue result ↔ (item.now ≡ codes "start") }
+{
+    match item {
+        b"start" => true,
+        _ => false,
+    }
+}
+
+// The word of an item that ends a game.
+fn word_of(item: &[u8]) -> Option<Word>
+    ensures { (w : ClosingWord) → (result ≡ Some w) ↔ (item.now ≡ text_of_word w) }
+{
+    match item {
+        b"resigns" => Some(Word::Resigns),
+        b"time" => Some(Word::Time),
+        _ => None,
+    }
+}
+
+// Whether a text has no item.
+fn is_without_items(text: &[u8]) -> bool
+    ensures { IsTrue result ↔ (items_of text.now ≡ []) }
+{
+    match first_item(text) {
+        None => true,
+        Some(_) => false,
+    }
+}
+
+// The word that is the only item of a text.
+fn read_word(text: &[u8]) -> Option<Word>
+    ensures { (w : ClosingWord) → (result ≡ Some w) ↔ (items_of text.now ≡ text_of_word w ∷ []) }
+{
+    let (item, rest) = first_item(text)?;
+    let word = word_of(item)?;
+    if is_without_items(rest) {
+        Some(word)
+    } else {
+        None
+    }
+}
+
+// What a line says, or what is wrong with it.
+fn reading(bytes: &[u8]) -> Result<RecordLine, LineFault>
+    ensures { IsLineReading bytes.now result }
+{
+    let Some((item, rest)) = first_item(bytes) else {
+        return Ok(RecordLine::Blank);
+    };
+    if is_comment(item) {
+        return Ok(RecordLine::Blank);
+    }
+    if is_start(item) {
+        return read_start(rest);
+    }
+    match read_label(item) {
+        Some(label) => read_content(label, rest),
+        None => Err(LineFault::Text),
+    }
+}
+
+// What a line says that begins with the word `start`, before this text.
+fn read_start(text: &[u8]) -> Result<RecordLine, LineFault>
+    ensures { (bytes : List ℕ) → IsFirstItem bytes (codes "start") text.now → IsLineReading bytes result }
+{
+    let Some((item, rest)) = first_item(text) else {
+        return Err(LineFault::Text);
+    };
+    match read_label(item) {
+        Some(label) => board_of_start(label, trim(rest)),
+        None => Err(LineFault::Text),
+    }
+}
+
+// What a start line of this label and board text says.
+fn board_of_start(label: Label, text: &[u8]) -> Result<RecordLine, LineFault>
+    ensures { (bytes : List ℕ) → IsStartForm bytes label text.now → IsLineReading bytes result }
+{
+    let Label { number, side } = label;
+    match read_board(text) {
+        Ok(board) => Ok(RecordLine::Start {
+            number,
+            side,
+            board,
+        }),
+        Err(fault) => Err(LineFault::BadStart {
+            number,
+            side,
+            fault,
+        }),
+    }
+}
+
+// What a line says that begins with a label, before this text.
+fn read_content(label: Label, text: &[u8]) -> Result<RecordLine, LineFault>
+    ensures { (bytes : List ℕ) → IsLabelled bytes label (items_of text.now) → IsLineReading bytes result }
+{
+    let Label { number, side } = label;
+    if is_without_items(text) {
+        return Ok(RecordLine::Bare { number, side });
+    }
+    if let Some(word) = read_word(text) {
+        return Ok(RecordLine::Closing { number, side, word });
+    }
+    match read_setup(text, side) {
+        Ok(setup) => Ok(RecordLine::Setup {
+            number,
+            side,
+            setup,
+        }),
+        Err(fault) => match fault {
+            NoteFault::Setup => Err(LineFault::BadSetup { number, side }),
+            _ => read_steps(label, text),
+        },
+    }
+}
+
+// What a line says that begins with a label, where this text after it is no setup's and no word.
+fn read_steps(label: Label, text: &[u8]) -> Result<RecordLine, LineFault>
+    ensures { (bytes : List ℕ) → IsLabelled bytes label (items_of text.now)
+        → IsNoOtherContent (items_of text.now) → IsLineReading bytes result }
+{
+    let Label { number, side } = label;
+    match read_turn(text) {
+        Ok(noted) => Ok(RecordLine::Turn {
+            number,
+            side,
+            noted,
+        }),
+        Err(fault) => match fault {
+            NoteFault::Steps => Err(LineFault::Steps { number, side }),
+            _ => Err(LineFault::Text),
+        },
+    }
+}
