@@ -15,7 +15,7 @@ use Rattle.arimaa_model.proofs.Positions.{same_position-Decides, count-more}
 use Rattle.arimaa_model.proofs.Barring.{barred-more}
 use Rattle.arimaa_history.specs.declared.key.Key.{Key}
 use Rattle.arimaa_history.specs.Keys.{key_of, position_at}
-use Rattle.arimaa_history.specs.Counts.{order_of, counted, AreCounts, AreKept}
+use Rattle.arimaa_history.specs.Counts.{order_of, count_of, AreCounts, AreKept}
 
 exact_bools : CmpEqualImpliesEq bool_cmp
 exact_bools true true e = refl
@@ -52,30 +52,30 @@ same_key p q p_back q_back =
 module _ (h : List Position) (counts more : BTreeMap Key ℕ) (p : Position) where
   -- the map in which the count of p is one more counts the list with p at its end
   counting-more : AreCounts h counts → position_at (key_of p) ≡ p
-      → ((k : Key) → get order_of more k ≡ cond (is_eq (order_of (key_of p) k)) (Some (counted counts (key_of p) + 1)) (get order_of counts k))
+      → ((k : Key) → get order_of more k ≡ cond (is_eq (order_of (key_of p) k)) (Some (count_of counts (key_of p) + 1)) (get order_of counts k))
       → AreCounts (h ++ p ∷ []) more
   counting-more are back updated q q_back =
-      let value : counted more (key_of q) ≡ unwrap_or (cond (same_position q p) (Some (counted counts (key_of p) + 1)) (get order_of counts (key_of q))) 0 =
+      let value : count_of more (key_of q) ≡ unwrap_or (cond (same_position q p) (Some (count_of counts (key_of p) + 1)) (get order_of counts (key_of q))) 0 =
       ap (λ (o : Option ℕ). unwrap_or o 0) (updated (key_of q))
-      ∙ ap (λ (b : Bool). unwrap_or (cond b (Some (counted counts (key_of p) + 1)) (get order_of counts (key_of q))) 0) (same_key p q back q_back) in
-      let was : counted counts (key_of q) ≡ count_in h q = are q q_back in
+      ∙ ap (λ (b : Bool). unwrap_or (cond b (Some (count_of counts (key_of p) + 1)) (get order_of counts (key_of q))) 0) (same_key p q back q_back) in
+      let was : count_of counts (key_of q) ≡ count_in h q = are q q_back in
       let gain = count-more h p q in
       ⊎_elim
       (λ (same : same_position q p ≡ true).
       let alike : p ≡ q = sym ((same_position-Decides q p).0 same) in
-      let before : counted counts (key_of p) ≡ count_in h q = ap (λ (x : Position). counted counts (key_of x)) alike ∙ was in
-      let now : counted more (key_of q) ≡ counted counts (key_of p) + 1 = rw same at value in
+      let before : count_of counts (key_of p) ≡ count_in h q = ap (λ (x : Position). count_of counts (key_of x)) alike ∙ was in
+      let now : count_of more (key_of q) ≡ count_of counts (key_of p) + 1 = rw same at value in
       let then : count_in (h ++ p ∷ []) q ≡ count_in h q + 1 = rw same at gain in
       now ∙ (ap (λ n. n + 1) before ∙ sym then))
       (λ (other : same_position q p ≡ false).
-      let now : counted more (key_of q) ≡ counted counts (key_of q) = rw other at value in
+      let now : count_of more (key_of q) ≡ count_of counts (key_of q) = rw other at value in
       let then : count_in (h ++ p ∷ []) q ≡ count_in h q + 0 = rw other at gain in
       now ∙ (was ∙ omega (arith, then)))
       (cases_Bool (same_position q p))
 
   -- what is kept beside the positions, with one more of them
   pub kept-more : (barred : List Position) → AreKept h barred counts → position_at (key_of p) ≡ p
-      → ((k : Key) → get order_of more k ≡ cond (is_eq (order_of (key_of p) k)) (Some (counted counts (key_of p) + 1)) (get order_of counts k))
+      → ((k : Key) → get order_of more k ≡ cond (is_eq (order_of (key_of p) k)) (Some (count_of counts (key_of p) + 1)) (get order_of counts k))
       → AreKept (h ++ p ∷ []) (barred ++ if_second h p []) more
   kept-more barred kept back updated = record {
     barring = ap (λ (qs : List Position). qs ++ if_second h p []) kept.barring ∙ sym (barred-more h p);

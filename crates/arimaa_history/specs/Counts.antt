@@ -12,13 +12,13 @@ use Rattle.arimaa_history.specs.Keys.{key_of, position_at}
 abbrev pub order_of : Key → Key → Ordering
 order_of = (key_order.ghosts).cmp
 
--- how often a key is counted: an absent one not at all
-abbrev pub counted : BTreeMap Key ℕ → Key → ℕ
-counted counts k = unwrap_or (get order_of counts k) 0
+-- how often a key is counted, 0 where the map does not have it
+abbrev pub count_of : BTreeMap Key ℕ → Key → ℕ
+count_of counts k = unwrap_or (get order_of counts k) 0
 
--- the map counts how often each position of a game's board stands in a list
+-- the map has at its key how often a position stands in a list, for each position that its key gives back
 abbrev pub AreCounts : List Position → BTreeMap Key ℕ → Type 0
-AreCounts h counts = (q : Position) → position_at (key_of q) ≡ q → counted counts (key_of q) ≡ count_in h q
+AreCounts h counts = (q : Position) → position_at (key_of q) ≡ q → count_of counts (key_of q) ≡ count_in h q
 
 -- what is kept beside the positions of a history: the barred ones, and how often each stands there
 pub record AreKept (h barred : List Position) (counts : BTreeMap Key ℕ) : Type 0 where

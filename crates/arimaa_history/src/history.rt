@@ -3,7 +3,7 @@ ghost use Rattle.std.specs.Prelude.{◌≡◌, ◌↔◌, ◌<◌, ◌≤◌, []
 ghost use Rattle.arimaa_board.specs.declared.position.Position.{Position};
 ghost use Rattle.arimaa_model.specs.Game.{barred_by, count_in, present};
 ghost use Rattle.arimaa_model.specs.Members.{AreDistinct, Stands};
-ghost use Rattle.arimaa_history.specs.Counts.{counted};
+ghost use Rattle.arimaa_history.specs.Counts.{count_of};
 
 use crate::key::Key;
 use arimaa_board::Position;
@@ -15,6 +15,9 @@ use std::marker::Model;
 ///
 /// A position is a board with the side to move. One that stands at least twice is barred: no turn may bring
 /// it about any more. A contract sees a history as the list of its positions.
+///
+/// To count a position takes one search of an ordered map, and to add one takes two, so the time of each grows
+/// with the logarithm of the number of distinct positions.
 #[derive(Drop)]
 pub struct History {
     positions: Vec<Position>,
@@ -37,8 +40,8 @@ impl Model for History {
 }
 
 // How often a key is counted.
-fn counted(counts: &BTreeMap<Key, u64>, key: &Key) -> u64
-    ensures { result ≡ counted counts.now key.now }
+fn count_of(counts: &BTreeMap<Key, u64>, key: &Key) -> u64
+    ensures { result ≡ count_of counts.now key.now }
 {
     counts.get(key).copied().unwrap_or(0)
 }
@@ -71,7 +74,8 @@ impl History {
         ensures refused { OnErr result (self.new ≡ self.old) }
     {
         let key = Key::of(&p);
-        let before = counted(&self.counts, &key);
+        let before = count_of(&self.counts, &key);
+        // what may fail comes first, and changes nothing where it does
         self.positions.reserve(1)?;
         self.barred.reserve(1)?;
         self.counts.insert(key, before + 1)?;
@@ -84,7 +88,7 @@ impl History {
     pub fn count(&self, p: &Position) -> u64
         ensures { result ≡ count_in self.now p.now }
     {
-        counted(&self.counts, &Key::of(p))
+        count_of(&self.counts, &Key::of(p))
     }
 
     /// The positions in order.
