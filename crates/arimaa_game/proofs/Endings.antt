@@ -1,17 +1,20 @@
 -- How a game ends by the rules and by a word, and what a game keeps at hand.
-use Rattle.std.proofs.Common.{◌≡◌, List, [], ◌∷◌, ◌++◌, Option, None, Some, Bool, true, false, cond, refl, sym, ap, subst, ◌∙◌, arith, true≢false}
-use Rattle.std.specs.Prelude.{IsSome, is_some, All, ◌||◌}
+use Rattle.std.proofs.Common.{◌≡◌, ◌<◌, ◌≤◌, ℕ, get_or, take, ⊎_elim, length-append, List, [], ◌∷◌, ◌++◌, length, Option, None, Some, false, refl, sym, ap, subst, ◌∙◌, arith, true≢false}
+use Rattle.std.specs.Prelude.{IsSome, is_some, All, Bool, true, cond, ◌||◌}
 use Rattle.std.specs.List.{filter, list_any}
 use Rattle.std.specs.Option.{option_or}
+use Rattle.std.proofs.Math.Seq.{get_or-append_seam, take-append_seam}
+use Rattle.std.proofs.lemmas.Bool.{cases_lt}
+use Rattle.std.proofs.lemmas.List.{get_or_append_left, take-append-le}
 use Rattle.std.proofs.lemmas.List.Elements.{All-push}
 use Rattle.arimaa_board.specs.Fit.{IsFit}
 use Rattle.arimaa_board.specs.declared.position.Position.{Position}
 use Rattle.arimaa_model.specs.declared.ending.Ending.{Ending}
 use Rattle.arimaa_model.specs.declared.ending.Word.{Word}
 use Rattle.arimaa_model.specs.Decided.{decided}
-use Rattle.arimaa_model.specs.Game.{closed_by, ended_for, ending, ending_at, lawful_at, present}
+use Rattle.arimaa_model.specs.Game.{IsLawful, closed_by, ended_for, ending, ending_at, lawful_at, present}
 use Rattle.arimaa_history.proofs.Present.{present-push}
-use Rattle.arimaa_game.specs.Play.{Play, IsKept, ending_by, ending_of}
+use Rattle.arimaa_game.specs.Play.{AreLawful, Play, IsKept, ending_by, ending_of}
 
 -- a position that is decided has ended the game
 pub ending_at-decided : (h : List Position) (p : Position) (e : Ending) → Some e ≡ decided p → Some e ≡ ending_at h p
@@ -22,6 +25,24 @@ ending_at-decided h p e is = ap (λ (o : Option Ending). ended_for p o (lawful_a
 pub ending_at-undecided : (h : List Position) (p : Position) → None ≡ decided p → ended_for p None (lawful_at h p) ≡ ending_at h p
 unfolding ending_at
 ending_at-undecided h p is = ap (λ (o : Option Ending). ended_for p o (lawful_at h p)) is
+
+-- a position whose side has a result that passes goes on
+pub left-some : (p : Position) (passes : Position → Bool) (qs : List Position) → list_any passes qs ≡ true → None ≡ ended_for p None (filter passes qs)
+left-some p passes [] some = absurd (true≢false (sym some))
+left-some p passes (q ∷ qs) some =
+    elim (passes q) as (λ v. v || list_any passes qs ≡ true → None ≡ ended_for p None (cond v (q ∷ filter passes qs) (filter passes qs))) [
+      | true ↦ λ _. refl
+      | false ↦ λ rest. left-some p passes qs rest
+    ] some
+
+-- where none passes, none is left
+pub left-none : (passes : Position → Bool) (qs : List Position) → list_any passes qs ≡ false → filter passes qs ≡ []
+left-none passes [] none = refl
+left-none passes (q ∷ qs) none =
+    elim (passes q) as (λ v. v || list_any passes qs ≡ false → cond v (q ∷ filter passes qs) (filter passes qs) ≡ []) [
+      | true ↦ λ e. absurd (true≢false e)
+      | false ↦ λ rest. left-none passes qs rest
+    ] none
 
 -- the ending of a history is that of its present position
 pub ending-present : (h : List Position) (p : Position) → present h ≡ Some p → ending h ≡ ending_at h p
@@ -65,48 +86,51 @@ no_word (Some w) e some = absurd (cc)
 is_present : (o : Option Position) (p : Position) → o ≡ Some p → IsSome o
 is_present o p e = rw e refl
 
+-- a lawful position more
+lawful-more : (h : List Position) (q : Position) → AreLawful h → (0 < length h → (ending h ≡ None) × IsLawful h q) → AreLawful (h ++ q ∷ [])
+lawful-more h q each here =
+    λ k d low small.
+    let Follows : List Position → Position → Type 0 = λ g r. (ending g ≡ None) × IsLawful g r in
+    let whole = length-append h (q ∷ []) in
+    ⊎_elim
+    (λ (before : k < length h).
+    let front : take k (h ++ q ∷ []) ≡ take k h = take-append-le k h (q ∷ []) (omega arith) in
+    let same : get_or (h ++ q ∷ []) k d ≡ get_or h k d = get_or_append_left h (q ∷ []) d k before in
+    subst (λ (g : List Position). Follows g (get_or (h ++ q ∷ []) k d)) (sym front) (subst (Follows (take k h)) (sym same) (each k d low before)))
+    (λ (past : length h ≤ k).
+    let last : length h ≡ k = omega arith in
+    let front : take (length h) (h ++ q ∷ []) ≡ h = take-append_seam h (q ∷ []) in
+    let same : get_or (h ++ q ∷ []) (length h) d ≡ q = get_or-append_seam h q [] d in
+    subst (λ (n : ℕ). Follows (take n (h ++ q ∷ [])) (get_or (h ++ q ∷ []) n d)) last
+    (subst (λ (g : List Position). Follows g (get_or (h ++ q ∷ []) (length h) d)) (sym front) (subst (Follows h) (sym same) (here (omega arith)))))
+    (cases_lt k (length h))
+
 -- what a game keeps after a position was added
-pub kept-grown : (h new : List Position) (w : Option Word) (q : Position) (o : Option Ending) → new ≡ h ++ q ∷ [] → w ≡ None → All (λ (x : Position). IsFit x.board) h → IsFit q.board → o ≡ ending_at new q → IsKept (record { history = new; closing = w }) q o
-kept-grown h new w q o more none fits fit is =
+pub kept-grown : (h new : List Position) (w : Option Word) (q : Position) (o : Option Ending) → new ≡ h ++ q ∷ [] → w ≡ None → All (λ (x : Position). IsFit x.board) h → IsFit q.board → AreLawful h → (0 < length h → (ending h ≡ None) × IsLawful h q) → o ≡ ending_at new q → IsKept (record { history = new; closing = w }) q o
+kept-grown h new w q o more none fits fit each lawful is =
     let Fits : Position → Type 0 = λ x. IsFit x.board in
     let now : present new ≡ Some q = ap present more ∙ present-push h q in
     record {
-      game = record { some = is_present (present new) q now; fit = subst (All Fits) (sym more) (All-push Fits h q fits fit); closing = λ some. absurd (no_word w none some) };
+      game = record { some = is_present (present new) q now; fit = subst (All Fits) (sym more) (All-push Fits h q fits fit); lawful = subst AreLawful (sym more) (lawful-more h q each lawful); closing = λ some. absurd (no_word w none some) };
       present = now;
       ending = is ∙ (sym (ending-present new q now) ∙ unclosed-ending new w none);
     }
 
--- no position, and so none on a board that is not fit
-pub none-fit : (h : List Position) → h ≡ [] → All (λ (x : Position). IsFit x.board) h
-none-fit [] e = λ k d small. absurd (omega arith)
-none-fit (p ∷ h) e = absurd (cc)
+-- what a game keeps at its first position
+pub kept-begun : (h new : List Position) (p : Position) (o : Option Ending) → h ≡ [] → new ≡ h ++ p ∷ [] → IsFit p.board → o ≡ ending_at new p → IsKept (record { history = new; closing = None }) p o
+kept-begun [] new p o e more fit is =
+    kept-grown [] new None p o more refl (λ k d small. absurd (omega arith)) fit (λ k d low small. absurd (omega arith)) (λ some. absurd (omega arith)) is
+kept-begun (q ∷ h) new p o e more fit is = absurd (cc)
 
 -- what a game keeps after a word has closed it
 pub kept-closed : (g : Play) (p : Position) (o : Option Ending) (word : Word) (e : Ending) → IsKept g p o → is_some o ≡ false → e ≡ closed_by word p.side → IsKept (record { history = g.history; closing = Some word }) p (Some e)
 kept-closed g p o word e kept running is =
     let none : ending g.history ≡ None = running-rules g (sym kept.ending ∙ is_none o running) in
     record {
-      game = record { some = kept.game.some; fit = kept.game.fit; closing = λ some. none };
+      game = record { some = kept.game.some; fit = kept.game.fit; lawful = kept.game.lawful; closing = λ some. none };
       present = kept.present;
       ending = ap Some is ∙ sym (closed-ending g.history p word kept.present none);
     } where
       is_none : (x : Option Ending) → is_some x ≡ false → x ≡ None
       is_none None f = refl
       is_none (Some a) f = absurd (true≢false f)
-
--- no result is left just where none passes
-pub left-some : (p : Position) (passes : Position → Bool) (qs : List Position) → list_any passes qs ≡ true → None ≡ ended_for p None (filter passes qs)
-left-some p passes [] some = absurd (true≢false (sym some))
-left-some p passes (q ∷ qs) some =
-    elim (passes q) as (λ v. v || list_any passes qs ≡ true → None ≡ ended_for p None (cond v (q ∷ filter passes qs) (filter passes qs))) [
-      | true ↦ λ _. refl
-      | false ↦ λ rest. left-some p passes qs rest
-    ] some
-
-pub left-none : (passes : Position → Bool) (qs : List Position) → list_any passes qs ≡ false → filter passes qs ≡ []
-left-none passes [] none = refl
-left-none passes (q ∷ qs) none =
-    elim (passes q) as (λ v. v || list_any passes qs ≡ false → cond v (q ∷ filter passes qs) (filter passes qs) ≡ []) [
-      | true ↦ λ e. absurd (true≢false e)
-      | false ↦ λ rest. left-none passes qs rest
-    ] none

@@ -1,5 +1,6 @@
 -- A game as contracts see it, and what turns and words do to it.
-use Rattle.std.specs.Prelude.{◌≡◌, List, [], ◌∷◌, ◌++◌, Option, None, Some, Result, Ok, Err, All, IsSome, is_some, nat_le, if◌then◌else◌}
+use Rattle.std.specs.Prelude.{◌≡◌, ℕ, ◌<◌, List, [], ◌∷◌, ◌++◌, Option, None, Some, Result, Ok, Err, All, IsSome, is_some, nat_le, length, take, if◌then◌else◌}
+use Rattle.std.specs.List.{slice_index_or}
 use Rattle.std.specs.Option.{option_or}
 use Rattle.arimaa_board.specs.Fit.{IsFit}
 use Rattle.arimaa_board.specs.declared.position.Position.{Position}
@@ -55,10 +56,15 @@ turned h (Some p) steps = unless_third h (applied p steps)
 unfoldable pub played : Play → List Step → Result Position GameFault
 played g steps = if is_some (ending_of g) then Err faults.Over else turned g.history (present g.history) steps
 
--- what holds of every game: there is a present position, each board is fit, and a word closed only what the rules had not ended
+-- each position but the first follows on a game that had not ended, and in which a turn may bring it about
+abbrev pub AreLawful : List Position → Type 0
+AreLawful h = (k : ℕ) (d : Position) → 0 < k → k < length h → (ending (take k h) ≡ None) × IsLawful (take k h) (slice_index_or h k d)
+
+-- what holds of every game: there is a present position, each board is fit, each later position is lawful, and a word closed only what the rules had not ended
 pub record IsGame (g : Play) : Type 0 where
   pub some : IsSome (present g.history)
   pub fit : All (λ q. IsFit q.board) g.history
+  pub lawful : AreLawful g.history
   pub closing : IsSome g.closing → ending g.history ≡ None
 
 -- what a game keeps at hand is its present position and how it has ended

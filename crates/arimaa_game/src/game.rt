@@ -4,7 +4,7 @@ ghost use Rattle.arimaa_board.specs.declared.piece.Color.TheVariants as colors;
 ghost use Rattle.arimaa_board.specs.declared.piece.Piece.{Piece};
 ghost use Rattle.arimaa_board.specs.declared.position.Position.{Position};
 ghost use Rattle.arimaa_board.specs.Fit.{IsFit};
-ghost use Rattle.arimaa_model.specs.Game.{closed_by, ending, present};
+ghost use Rattle.arimaa_model.specs.Game.{IsLawful, closed_by, ending, present};
 ghost use Rattle.arimaa_model.specs.Marks.{marks_right};
 ghost use Rattle.arimaa_model.specs.FirstFaults.{first_fault_in};
 ghost use Rattle.arimaa_game.specs.Setups.{HoldsSetups, board_after_setups, position_after_setups};
@@ -137,7 +137,8 @@ impl Game {
 
     // Adds what a turn brings about, and answers how the game has then ended.
     fn add(&mut self, reached: Position) -> Result<Option<Ending>, AllocError>
-        requires closing { self.old.closing ≡ None }
+        requires running { ending_of self.old ≡ None }
+        requires lawful { IsLawful self.old.history reached }
         requires fit { IsFit reached.board }
         ensures added { OnOk result (self.new ≡ grown self.old reached) }
         ensures ending { IfOk result (λ ended. ended ≡ ending self.new.history) }

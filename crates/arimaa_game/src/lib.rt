@@ -5,6 +5,8 @@ mod ending;
 mod fault;
 mod game;
 mod setups;
+#[cfg(test)]
+mod tests;
 
 pub use fault::GameFault;
 pub use game::Game;

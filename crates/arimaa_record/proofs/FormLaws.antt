@@ -1,5 +1,5 @@
 -- No line has two readings.
-use Rattle.std.proofs.Common.{◌≡◌, ◌≢◌, ⊎_elim, zero, suc, ℕ, ◌<◌, ◌≤◌, ◌+◌, List, [], ◌∷◌, ◌++◌, length, get_or, drop, Bool, true, false, cond, Some, sym, ◌∙◌, ap, subst, arith, refl, inl, inr, ne_eqb, Result, Ok, Err}
+use Rattle.std.proofs.Common.{◌≡◌, ◌≢◌, ⊎_elim, zero, suc, ℕ, ◌<◌, ◌+◌, List, [], ◌∷◌, ◌++◌, length, get_or, drop, true, false, cond, sym, ◌∙◌, ap, subst, arith, refl, inl, inr, ne_eqb, Result, Ok, Err}
 use Rattle.std.specs.Prelude.{◌==◌, ◌⊎◌, All, codes}
 use Rattle.std.proofs.Math.Seq.{drop-append_seam}
 use Rattle.std.proofs.lemmas.Bool.{false≢true}
@@ -15,15 +15,14 @@ use Rattle.arimaa_board.specs.declared.piece.Piece.{Piece}
 use Rattle.arimaa_board.specs.declared.turn.NotedStep.{NotedStep}
 use Rattle.arimaa_board.specs.Piece.{capital_of, letter_case}
 use Rattle.arimaa_board.specs.Setup.{Lineup}
-use Rattle.arimaa_board.specs.Text.{IsBoardText, reading_of}
+use Rattle.arimaa_board.specs.Text.{reading_of}
 use Rattle.arimaa_board.proofs.ReadingLaws.{IsBoardText-read}
 use Rattle.arimaa_model.specs.declared.ending.Word.{Word}
 use Rattle.arimaa_model.specs.declared.ending.Word.TheVariants.{Resigns, Time}
 use Rattle.arimaa_notation.specs.declared.fault.NoteFault.{NoteFault}
 use Rattle.arimaa_notation.specs.declared.fault.NoteFault.TheVariants as note
 use Rattle.arimaa_notation.specs.Items.{is_blank, items_of, IsFirstItem}
-use Rattle.arimaa_notation.specs.Written.{items_of_turn, items_of_entries}
-use Rattle.arimaa_notation.specs.Grammar.{AreSteps, AreEntries, IsTurnReading, IsSetupReading, AreTooManySteps, AreNoSetup}
+use Rattle.arimaa_notation.specs.Grammar.{AreSteps, AreEntries, IsTurnReading, IsSetupReading}
 use Rattle.arimaa_notation.proofs.ItemLaws.{items-first}
 use Rattle.arimaa_notation.proofs.WrittenLaws.{size-lineup}
 use Rattle.arimaa_notation.proofs.TurnReading as turns
@@ -35,7 +34,7 @@ use Rattle.arimaa_record.specs.declared.fault.LineFault.{LineFault}
 use Rattle.arimaa_record.specs.declared.fault.LineFault.TheVariants as fault
 use Rattle.arimaa_record.specs.Label.{IsLabel, label_of}
 use Rattle.arimaa_record.specs.Blanks.{trimmed}
-use Rattle.arimaa_record.specs.Grammar.{IsStartForm, IsLabelled, IsContent, HasForm, text_of_word, IsLineText, IsLineFault, IsLineReading}
+use Rattle.arimaa_record.specs.Grammar.{IsStartForm, IsLabelled, HasForm, text_of_word, IsLineReading}
 use Rattle.arimaa_record.proofs.LabelLaws.{label_first, same_label}
 
 -- the first and the rest of equal lists
@@ -335,17 +334,18 @@ text_kind r e = absurd (omega arith)
 pub one_reading : (bytes : List ℕ) (r s : Result RecordLine LineFault) → IsLineReading bytes r → IsLineReading bytes s → r ≡ s
 one_reading bytes r s a b =
     ⊎_elim (λ (r_text : kind_of r ≡ 0).
-      ⊎_elim (λ (s_text : kind_of s ≡ 0). text_kind r r_text ∙ sym (text_kind s s_text))
-      (λ s_more. absurd (refuted bytes r s (text_kind r r_text) a s_more b))
-      (zero_or_more (kind_of s)))
+    ⊎_elim (λ (s_text : kind_of s ≡ 0). text_kind r r_text ∙ sym (text_kind s s_text))
+    (λ s_more. absurd (refuted bytes r s (text_kind r r_text) a s_more b))
+    (zero_or_more (kind_of s)))
     (λ r_more.
-      ⊎_elim (λ (s_text : kind_of s ≡ 0). absurd (refuted bytes s r (text_kind s s_text) b r_more a))
-      (λ s_more. same_kind bytes r s a b r_more (kind_read bytes s s_more b ∙ sym (kind_read bytes r r_more a)))
-      (zero_or_more (kind_of s)))
+    ⊎_elim (λ (s_text : kind_of s ≡ 0). absurd (refuted bytes s r (text_kind s s_text) b r_more a))
+    (λ s_more. same_kind bytes r s a b r_more (kind_read bytes s s_more b ∙ sym (kind_read bytes r r_more a)))
+    (zero_or_more (kind_of s)))
     (zero_or_more (kind_of r))
   where
     zero_or_more : (k : ℕ) → (k ≡ 0) ⊎ (0 < k)
     zero_or_more zero = inl refl
     zero_or_more (suc k) = inr (omega arith)
+
     refuted : (bytes : List ℕ) (r s : Result RecordLine LineFault) → r ≡ Err fault.Text → IsLineReading bytes r → 0 < kind_of s → IsLineReading bytes s → ⊥
     refuted bytes r s e a more b = let text : IsLineReading bytes (Err fault.Text) = subst (IsLineReading bytes) e a in text (has_form bytes s more b)

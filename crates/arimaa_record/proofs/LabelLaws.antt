@@ -1,9 +1,8 @@
 -- The first byte of a label is a digit, and bytes are the label of one number and side.
-use Rattle.std.proofs.Common.{◌≡◌, ℕ, ◌<◌, ◌≤◌, ◌+◌, ◌^◌, List, [], ◌∷◌, ◌++◌, length, get_or, Some, sym, ◌∙◌, ap, subst, arith, refl}
+use Rattle.std.proofs.Common.{◌≡◌, ℕ, ◌<◌, ◌^◌, List, [], ◌∷◌, ◌++◌, length, get_or, Some, sym, ◌∙◌, ap, arith, refl}
 use Rattle.std.specs.Fmt.{decimal}
 use Rattle.std.proofs.lemmas.Fmt.{decimal_is_IsNumeral, decimal_nonempty, first_decimal, decimal_injective}
 use Rattle.std.proofs.lemmas.Str.Parse.{digit_at}
-use Rattle.arimaa_board.specs.declared.piece.Color.{Color}
 use Rattle.arimaa_record.specs.declared.label.Label.{Label}
 use Rattle.arimaa_record.specs.Label.{side_of_letter, IsLabel}
 use Rattle.arimaa_record.proofs.LabelForms.{snoc_parts}

@@ -5,3 +5,5 @@ pub mod LabelLaws
 pub mod FormLaws
 pub mod ReaderLaws
 pub mod RecordReading
+pub mod PlainLaws
+pub mod WrittenBack

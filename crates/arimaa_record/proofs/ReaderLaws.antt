@@ -1,10 +1,9 @@
 -- Lines that have none of the forms, and those of one form alone.
-use Rattle.std.proofs.Common.{◌≡◌, ◌≢◌, ⊎_elim, zero, suc, ℕ, ◌<◌, ◌≤◌, List, [], ◌∷◌, length, take, get_or, true, false, true≢false, Some, None, Option, sym, ◌∙◌, ap, subst, arith, refl, inl, inr, eq-eqb, Result, Ok, Err}
-use Rattle.std.specs.Prelude.{◌==◌, ◌⊎◌, ◌↔◌, codes}
+use Rattle.std.proofs.Common.{◌≡◌, ◌≢◌, ⊎_elim, zero, suc, ℕ, ◌<◌, List, [], ◌∷◌, length, take, get_or, false, true≢false, sym, ◌∙◌, ap, subst, arith, refl, inl, inr, eq-eqb, Result, Ok, Err}
+use Rattle.std.specs.Prelude.{◌==◌, ◌↔◌, codes}
 use Rattle.std.specs.List.{AllByRecursion}
 use Rattle.std.proofs.lemmas.Bool.{cases_lt}
 use Rattle.std.proofs.lemmas.List.{take-map}
-use Rattle.arimaa_board.specs.declared.piece.Color.{Color}
 use Rattle.arimaa_board.specs.declared.piece.Piece.{Piece}
 use Rattle.arimaa_board.specs.declared.turn.NotedStep.{NotedStep}
 use Rattle.arimaa_board.specs.Setup.{Lineup}
@@ -12,7 +11,7 @@ use Rattle.arimaa_notation.specs.declared.fault.NoteFault.{NoteFault}
 use Rattle.arimaa_notation.specs.declared.fault.NoteFault.TheVariants.{Token, Steps, Setup}
 use Rattle.arimaa_notation.specs.Items.{items_of, IsFirstItem}
 use Rattle.arimaa_notation.specs.Written.{text_of_entry}
-use Rattle.arimaa_notation.specs.Grammar.{AreSteps, AreEntries, IsNamedItem, IsFirstBadEntry, IsTurnReading, AreTooManySteps}
+use Rattle.arimaa_notation.specs.Grammar.{AreSteps, AreEntries, IsNamedItem, IsFirstBadEntry}
 use Rattle.arimaa_notation.proofs.ItemLaws.{items-first}
 use Rattle.arimaa_notation.proofs.TurnReading as turns
 use Rattle.arimaa_record.specs.declared.label.Label.{Label}

@@ -1,10 +1,9 @@
 -- The written form of records.
-use Rattle.std.specs.Prelude.{◌≡◌, ◌≤◌, ◌<◌, ℕ, List, [], ◌∷◌, ◌++◌, codes, length, map}
-use Rattle.std.specs.List.{flat_map, AllByRecursion}
+use Rattle.std.specs.Prelude.{◌≡◌, ◌≤◌, ◌<◌, ℕ, List, [], ◌∷◌, ◌++◌, codes, length}
+use Rattle.std.specs.List.{flat_map}
 use Rattle.arimaa_board.specs.Fit.{IsFit}
 use Rattle.arimaa_board.specs.Text.{text_of}
 use Rattle.arimaa_notation.specs.Written.{items_of_turn, items_of_entries, joined}
-use Rattle.arimaa_record.specs.declared.label.Label.{Label}
 use Rattle.arimaa_record.specs.declared.line.RecordLine.{RecordLine}
 use Rattle.arimaa_record.specs.declared.line.RecordLine.TheVariants as line
 use Rattle.arimaa_record.specs.Label.{label_of, text_of_label}

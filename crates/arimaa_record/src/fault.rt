@@ -14,7 +14,10 @@ pub enum LineFault {
     Text,
     /// A turn of more than four steps.
     #[error("more than four steps in turn {number}")]
-    Steps { number: u32, side: Color },
+    Steps {
+        number: u32,
+        side: Color,
+    },
     /// A start line whose board text is refused for this fault.
     #[error("the start line of turn {number} has no board")]
     BadStart {
@@ -24,7 +27,10 @@ pub enum LineFault {
     },
     /// A setup line whose entries are no setup of the label's side.
     #[error("no setup in line {number}")]
-    BadSetup { number: u32, side: Color },
+    BadSetup {
+        number: u32,
+        side: Color,
+    },
 }
 
 /// Why a record is refused.

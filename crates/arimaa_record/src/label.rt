@@ -2,7 +2,7 @@
 ghost use Rattle.std.specs.Prelude.{◌≡◌, ◌≤◌, ◌↔◌, ℕ, Some};
 ghost use Rattle.std.specs.Fmt.{decimal};
 ghost use Rattle.arimaa_board.specs.declared.piece.Color.{Color as Side};
-ghost use Rattle.arimaa_record.specs.Label.{side_of_letter, next_label, IsLabel};
+ghost use Rattle.arimaa_record.specs.Label.{side_of_letter, label_of, next_label, IsLabel};
 ghost use Rattle.arimaa_record.specs.declared.label.Label.{Label as Due};
 
 use crate::number::read_number;
@@ -21,16 +21,20 @@ pub struct Label {
 }
 
 impl Label {
+    /// The label of this number and side.
+    pub fn new(number: u32, side: Color) -> Label
+        ensures { result ≡ label_of number side }
+    {
+        Label { number, side }
+    }
+
     /// The label that is due after the setup or turn of this one: after Ng comes Ns, and after Ns
     /// comes N + 1 with g. After the last label, that of `MOST_LABEL` with s, it is this one again.
     pub fn next(self) -> Label
         ensures { result ≡ next_label self }
     {
         match self.side {
-            Color::Gold => Label {
-                number: self.number,
-                side: Color::Silver,
-            },
+            Color::Gold => Label::new(self.number, Color::Silver),
             Color::Silver => after_silver(self.number),
         }
     }
@@ -38,18 +42,12 @@ impl Label {
 
 // The label after one of this number with s.
 fn after_silver(number: u32) -> Label
-    ensures { result ≡ next_label (record { number = number; side = Side.Silver }) }
+    ensures { result ≡ next_label (label_of number Side.Silver) }
 {
     if number < MOST_LABEL {
-        Label {
-            number: number + 1,
-            side: Color::Gold,
-        }
+        Label::new(number + 1, Color::Gold)
     } else {
-        Label {
-            number,
-            side: Color::Silver,
-        }
+        Label::new(number, Color::Silver)
     }
 }
 

@@ -21,3 +21,6 @@ pub use number::read_number;
 pub use reader::read_line;
 pub use record::{Record, read_record};
 pub use written::{push_label, push_line, record_text};
+
+#[cfg(test)]
+mod tests;

@@ -35,5 +35,8 @@ pub enum RecordLine {
         word: Word,
     },
     /// The record breaks off where the side is to set up or to move.
-    Bare { number: u32, side: Color },
+    Bare {
+        number: u32,
+        side: Color,
+    },
 }

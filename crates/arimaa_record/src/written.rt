@@ -1,6 +1,7 @@
 //! The written form of records.
-ghost use Rattle.std.specs.Prelude.{◌≡◌, [], ◌∷◌, ◌++◌, IfOk, OnOk};
-ghost use Rattle.arimaa_notation.specs.Written.{items_of_turn};
+ghost use Rattle.std.specs.Prelude.{◌≡◌, ◌<◌, length, [], ◌∷◌, ◌++◌, IfOk, OnOk};
+ghost use Rattle.arimaa_notation.specs.Written.{items_of_turn, text_of_turn};
+ghost use Rattle.arimaa_notation.specs.Grammar.{IsTurnText};
 ghost use Rattle.arimaa_record.specs.Label.{text_of_label, letter_of_side};
 ghost use Rattle.arimaa_record.specs.Grammar.{text_of_word, IsLineText};
 ghost use Rattle.arimaa_record.specs.Lines.{lines_of};
@@ -46,7 +47,8 @@ fn push_part(text: &mut Vec<u8>, part: &[u8]) -> Result<(), AllocError>
 
 // Adds a space and the steps of a turn, if it has any.
 fn push_turn(text: &mut Vec<u8>, noted: &Noted) -> Result<(), AllocError>
-    ensures { OnOk result (text.new.items ≡ text.old.items ++ spaced (items_of_turn noted.now)) }
+    ensures text { OnOk result (text.new.items ≡ text.old.items ++ spaced (items_of_turn noted.now)) }
+    ensures reads_back { OnOk result (0 < length noted.now → IsTurnText (text_of_turn noted.now) noted.now) }
 {
     if noted.steps().is_empty() {
         return Ok(());
@@ -66,30 +68,41 @@ fn word_text(word: Word) -> &'static [u8]
 
 // Adds what a line says.
 fn push_content(alloc: Global, text: &mut Vec<u8>, line: &RecordLine) -> Result<(), AllocError>
-    ensures { OnOk result (text.new.items ≡ text.old.items ++ text_of_line line.now) }
+    ensures text { OnOk result (text.new.items ≡ text.old.items ++ text_of_line line.now) }
+    ensures reads_back { OnOk result (IsWritable line.now → IsLineText (text_of_line line.now) line.now) }
 {
     match line {
         RecordLine::Blank => Ok(()),
-        RecordLine::Start { number, side, board } => {
+        RecordLine::Start {
+            number,
+            side,
+            board,
+        } => {
             text.extend_from_slice(b"start ")?;
-            push_label(alloc, text, Label { number: *number, side: *side })?;
+            push_label(alloc, text, Label::new(*number, *side))?;
             push_part(text, &board_text(board))
         }
-        RecordLine::Setup { number, side, setup } => {
-            push_label(alloc, text, Label { number: *number, side: *side })?;
+        RecordLine::Setup {
+            number,
+            side,
+            setup,
+        } => {
+            push_label(alloc, text, Label::new(*number, *side))?;
             push_part(text, setup_text(setup).as_bytes())
         }
-        RecordLine::Turn { number, side, noted } => {
-            push_label(alloc, text, Label { number: *number, side: *side })?;
+        RecordLine::Turn {
+            number,
+            side,
+            noted,
+        } => {
+            push_label(alloc, text, Label::new(*number, *side))?;
             push_turn(text, noted)
         }
         RecordLine::Closing { number, side, word } => {
-            push_label(alloc, text, Label { number: *number, side: *side })?;
+            push_label(alloc, text, Label::new(*number, *side))?;
             push_part(text, word_text(*word))
         }
-        RecordLine::Bare { number, side } => {
-            push_label(alloc, text, Label { number: *number, side: *side })
-        }
+        RecordLine::Bare { number, side } => { push_label(alloc, text, Label::new(*number, *side)) }
     }
 }
 

@@ -1,4 +1,3 @@
-use Rattle.std.proofs.Common.{◌<◌, length, arith, eqb-true, sym, ◌∙◌, ap, ◌≡◌, true, false, ⊎_elim}
 use Rattle.arimaa_record.proofs.LineLaws.{lines-cut, filled_by_test}
 use Rattle.arimaa_record.proofs.lines.first_line.Goals as goal
 

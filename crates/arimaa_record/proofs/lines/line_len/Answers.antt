@@ -1,4 +1,4 @@
-use Rattle.std.proofs.Common.{arith, sym, ap, eq-eqb}
+use Rattle.std.proofs.Common.{arith, sym, eq-eqb}
 use Rattle.std.proofs.lemmas.List.Sums.{position_or_len_is}
 use Rattle.arimaa_record.specs.Lines.{is_feed}
 use Rattle.arimaa_record.proofs.lines.line_len.Goals as goal

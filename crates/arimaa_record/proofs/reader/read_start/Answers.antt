@@ -1,4 +1,3 @@
-use Rattle.std.proofs.Common.{codes}
 use Rattle.arimaa_record.proofs.ReaderLaws.{start_alone, start_unlabelled}
 use Rattle.arimaa_record.proofs.reader.read_start.Goals as goal
 

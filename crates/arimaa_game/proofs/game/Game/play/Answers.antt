@@ -1,7 +1,6 @@
 use Rattle.std.proofs.Common.{◌∙◌, ap, sym, refl}
 use Rattle.std.proofs.lemmas.Result.{err_from_is_err_and}
 use Rattle.arimaa_game.specs.Faults.{rule_of_answer}
-use Rattle.arimaa_game.proofs.Endings.{running-unclosed}
 use Rattle.arimaa_game.proofs.Turns.{first-rule}
 use Rattle.arimaa_game.proofs.game.Game.play.Goals as goal
 
@@ -10,11 +9,6 @@ returns-in_err-reached-clause-first c p marks now running right =
     let e = err_from_is_err_and c.from_residual.result c.from_residual.ensures.1 in
     first-rule c.args.self.now p c.args.turn.now marks now running right
     ∙ (ap rule_of_answer (sym c.in_err-reached.ensures.answer) ∙ rw (e.1, e.2) refl)
-
-pub add-requires-clause-closing : goal.add-requires-clause-closing
-add-requires-clause-closing c =
-    let lawful = c.in_ok-reached.ensures.lawful in
-    running-unclosed c.args.self.now lawful.0 lawful.1.present lawful.1.running
 
 pub returns-in-Ok-clause-first : goal.returns-in-Ok-clause-first
 returns-in-Ok-clause-first c p marks now running right =

@@ -1,0 +1,135 @@
+-- Written lines hold no byte below the space.
+use Rattle.std.proofs.Common.{◌≡◌, ℕ, ◌<◌, ◌^◌, List, [], ◌∷◌, ◌++◌, length, map, arith, Option, None, Some, false}
+use Rattle.std.specs.Prelude.{All, codes}
+use Rattle.std.specs.Fmt.{decimal}
+use Rattle.std.specs.List.{AllByRecursion, range_with_len}
+use Rattle.std.proofs.lemmas.Bool.Decides.{nat_tests}
+use Rattle.std.proofs.lemmas.Fmt.{decimal_is_IsNumeral}
+use Rattle.std.proofs.lemmas.List.Elements.{All-from_recursion, recursion_from_All, All-from_get_or}
+use Rattle.std.proofs.lemmas.Str.Parse.{digit_at}
+use Rattle.arimaa_board.specs.declared.board.Board.{Board}
+use Rattle.arimaa_board.specs.declared.piece.Color.{Color}
+use Rattle.arimaa_board.specs.declared.piece.Color.TheVariants.{Gold, Silver}
+use Rattle.arimaa_board.specs.declared.piece.Piece.{Piece}
+use Rattle.arimaa_board.specs.declared.square.Dir.{Dir}
+use Rattle.arimaa_board.specs.declared.square.Dir.TheVariants.{North, East, South, West}
+use Rattle.arimaa_board.specs.declared.turn.NotedStep.{NotedStep}
+use Rattle.arimaa_board.specs.Board.{at}
+use Rattle.arimaa_board.specs.Text.{letter_of_content, places_of, text_of, turned}
+use Rattle.arimaa_model.specs.declared.ending.Word.{Word}
+use Rattle.arimaa_model.specs.declared.ending.Word.TheVariants.{Resigns, Time}
+use Rattle.arimaa_notation.specs.Items.{is_blank}
+use Rattle.arimaa_notation.specs.Written.{letter_of_dir, text_of_step, text_of_mark, text_of_entry, items_of_mark, items_of_step, items_of_turn, joined}
+use Rattle.arimaa_notation.proofs.WrittenLaws.{letter_seen}
+use Rattle.arimaa_record.specs.declared.label.Label.{Label}
+use Rattle.arimaa_record.specs.declared.line.RecordLine.{RecordLine}
+use Rattle.arimaa_record.specs.declared.line.RecordLine.TheVariants as line
+use Rattle.arimaa_record.specs.Label.{label_of, letter_of_side, text_of_label}
+use Rattle.arimaa_record.specs.Grammar.{text_of_word}
+use Rattle.arimaa_record.specs.Written.{IsInRange, IsWritable, parts_of_line, spaced, text_of_line}
+
+-- bytes above the space, and bytes that are no line's end
+abbrev pub IsSeen : List ℕ → Type 0
+IsSeen bytes = AllByRecursion (λ b. 32 < b) bytes
+
+abbrev pub IsPlain : List ℕ → Type 0
+IsPlain bytes = AllByRecursion (λ b. 31 < b) bytes
+
+pub plain_seen : (bytes : List ℕ) → IsSeen bytes → IsPlain bytes
+plain_seen [] all = tt
+plain_seen (b ∷ bs) all = (omega (arith, all.0), plain_seen bs all.1)
+
+not_blank : (b : ℕ) → 32 < b → is_blank b ≡ false
+not_blank b above = grind (arith, nat_tests)
+
+pub solid_seen : (bytes : List ℕ) → IsSeen bytes → All (λ b. is_blank b ≡ false) bytes
+solid_seen bytes all = All-from_recursion (λ b. is_blank b ≡ false) bytes (solid bytes all)
+  where
+    solid : (bytes : List ℕ) → IsSeen bytes → AllByRecursion (λ b. is_blank b ≡ false) bytes
+    solid [] all = tt
+    solid (b ∷ bs) all = (not_blank b all.0, solid bs all.1)
+
+pub all_append : {X : Type 0} (P : X → Type 0) (xs ys : List X) → AllByRecursion P xs → AllByRecursion P ys → AllByRecursion P (xs ++ ys)
+all_append P [] ys a b = b
+all_append P (x ∷ xs) ys a b = (a.0, all_append P xs ys a.1 b)
+
+all_map : {X Y : Type 0} (P : Y → Type 0) (f : X → Y) (xs : List X) → ((x : X) → P (f x)) → AllByRecursion P (map f xs)
+all_map P f [] h = tt
+all_map P f (x ∷ xs) h = (h x, all_map P f xs h)
+
+-- a label is of digits and a letter
+side_seen : (side : Color) → 32 < letter_of_side side
+side_seen Gold = omega arith
+side_seen Silver = omega arith
+
+decimal_seen : (n : ℕ) → n < 2 ^ 64 → IsSeen (decimal n)
+decimal_seen n small =
+    recursion_from_All (λ b. 32 < b) (decimal n)
+    (All-from_get_or (λ b. 32 < b) (decimal n) 0 (λ i less. let digit = digit_at (decimal n) i (decimal_is_IsNumeral n small).0.1 less in omega arith))
+
+pub label_seen : (label : Label) → IsInRange label.number → IsSeen (text_of_label label)
+label_seen label range = all_append (λ b. 32 < b) (decimal label.number) (letter_of_side label.side ∷ []) (decimal_seen label.number (omega (arith, range.most))) (side_seen label.side, tt)
+
+pub label_filled : (label : Label) → 0 < length (text_of_label label)
+label_filled label = filled (decimal label.number)
+  where
+    filled : (ds : List ℕ) → 0 < length (ds ++ letter_of_side label.side ∷ [])
+    filled [] = omega arith
+    filled (d ∷ ds) = omega arith
+
+dir_seen : (d : Dir) → 32 < letter_of_dir d
+dir_seen North = omega arith
+dir_seen East = omega arith
+dir_seen South = omega arith
+dir_seen West = omega arith
+
+mark_plain : (m : Option (Piece × ℕ)) → AllByRecursion IsPlain (items_of_mark m)
+mark_plain None = tt
+mark_plain (Some m) = (plain_seen (text_of_mark m) (letter_seen m.0, (omega arith, (omega arith, (omega arith, tt)))), tt)
+
+turn_plain : (ns : List NotedStep) → AllByRecursion IsPlain (items_of_turn ns)
+turn_plain [] = tt
+turn_plain (n ∷ ns) =
+    all_append IsPlain (items_of_step n) (items_of_turn ns)
+    (plain_seen (text_of_step n.step) (letter_seen n.step.piece, (omega arith, (omega arith, (dir_seen n.step.dir, tt)))), mark_plain n.mark) (turn_plain ns)
+
+entry_plain : (e : ℕ × Piece) → IsPlain (text_of_entry e)
+entry_plain e = plain_seen (text_of_entry e) (letter_seen e.1, (omega arith, (omega arith, tt)))
+
+content_plain : (p : Option Piece) → 31 < letter_of_content p
+content_plain None = omega arith
+content_plain (Some p) = omega (arith, letter_seen p)
+
+places_plain : (b : Board) → IsPlain (places_of b)
+unfolding places_of
+places_plain b = all_map (λ c. 31 < c) (λ k. letter_of_content (at b (turned k))) (range_with_len 0 64) (λ k. content_plain (at b (turned k)))
+
+board_plain : (b : Board) → IsPlain (text_of b)
+board_plain b = all_append (λ c. 31 < c) (91 ∷ places_of b) (93 ∷ []) (omega arith, places_plain b) (omega arith, tt)
+
+word_plain : (w : Word) → IsPlain (text_of_word w)
+word_plain Resigns = (omega arith, (omega arith, (omega arith, (omega arith, (omega arith, (omega arith, (omega arith, tt)))))))
+word_plain Time = (omega arith, (omega arith, (omega arith, (omega arith, tt))))
+
+parts_plain : (l : RecordLine) → IsWritable l → AllByRecursion IsPlain (parts_of_line l)
+parts_plain line.Blank h = tt
+parts_plain (line.Start number side board) h = (start_plain, (plain_seen _ (label_seen (label_of number side) h.0), (board_plain board, tt)))
+  where
+    start_plain : IsPlain (codes "start")
+    start_plain = (omega arith, (omega arith, (omega arith, (omega arith, (omega arith, tt)))))
+parts_plain (line.Setup number side setup) h = (plain_seen _ (label_seen (label_of number side) h.0), all_map IsPlain text_of_entry setup.pairs entry_plain)
+parts_plain (line.Turn number side noted) h = (plain_seen _ (label_seen (label_of number side) h.0), turn_plain noted)
+parts_plain (line.Closing number side word) h = (plain_seen _ (label_seen (label_of number side) h), (word_plain word, tt))
+parts_plain (line.Bare number side) h = (plain_seen _ (label_seen (label_of number side) h), tt)
+
+spaced_plain : (parts : List (List ℕ)) → AllByRecursion IsPlain parts → IsPlain (spaced parts)
+spaced_plain [] all = tt
+spaced_plain (x ∷ xs) all = all_append (λ b. 31 < b) (32 ∷ x) (spaced xs) (omega arith, all.0) (spaced_plain xs all.1)
+
+joined_plain : (parts : List (List ℕ)) → AllByRecursion IsPlain parts → IsPlain (joined parts)
+joined_plain [] all = tt
+joined_plain (x ∷ xs) all = all_append (λ b. 31 < b) x (spaced xs) all.0 (spaced_plain xs all.1)
+
+-- a written line has no byte that ends a line
+pub line_plain : (l : RecordLine) → IsWritable l → IsPlain (text_of_line l)
+line_plain l h = joined_plain (parts_of_line l) (parts_plain l h)
