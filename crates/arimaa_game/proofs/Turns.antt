@@ -70,6 +70,7 @@ module _ (g : Play) (p : Position) (steps : List Step) (game : IsGame g) (now : 
       let reached : Stands (results p) q = subst (Stands (results p)) (parts-position p q turn.1) (turns-reach p steps q.board fit.size turn.0) in
       let allowed : stands_in (lawful_at g.history p) q ≡ true = (lawful-Decides g.history p q).1 (reached, parts.1) in
       record {
+        answer = sym (played-running g p steps running now) ∙ is;
         running = not_ended (ending_of g) running;
         present = now;
         turn = turn;

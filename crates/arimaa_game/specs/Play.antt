@@ -75,6 +75,7 @@ pub record IsKept (g : Play) (now : Position) (ended : Option Ending) : Type 0 w
 
 -- a turn from p brings q about in a game that goes on, and the rules of the game allow q
 pub record BringsAbout (g : Play) (p : Position) (steps : List Step) (q : Position) : Type 0 where
+  pub answer : played g steps ≡ Ok q
   pub running : ending_of g ≡ None
   pub present : present g.history ≡ Some p
   pub turn : IsTurnTo p steps q

@@ -108,6 +108,7 @@ impl Game {
     pub fn play(&mut self, turn: &Turn) -> Result<Option<Ending>, GameFault>
         ensures played { OnOk result (GoesOn self.old turn.now self.new) }
         ensures ending { IfOk result (λ ended. ended ≡ ending self.new.history) }
+        ensures answer { IfOk result (λ ended. ended ≡ ending_of self.new) }
         ensures fault { IfErr result (λ e. IsFaultOf (played self.old turn.now) e) }
         ensures refused { OnErr result (self.new ≡ self.old) }
 
@@ -142,6 +143,7 @@ impl Game {
         requires fit { IsFit reached.board }
         ensures added { OnOk result (self.new ≡ grown self.old reached) }
         ensures ending { IfOk result (λ ended. ended ≡ ending self.new.history) }
+        ensures answer { IfOk result (λ ended. ended ≡ ending_of self.new) }
         ensures refused { OnErr result (self.new ≡ self.old) }
     {
         self.history.push(reached)?;

@@ -62,7 +62,8 @@ impl Record {
 /// where no memory was left before the first such line, or before the end.
 pub fn read_record(alloc: Global, bytes: &[u8]) -> Result<Record, RecordFault>
     ensures lines { IfOk result (λ r. AreLines (lines_of bytes.now) r) }
-    ensures fault { (n : ℕ) (f : FaultValue) → result ≡ Err (RecordFault.Line n f) → IsFirstFault (lines_of bytes.now) n f }
+    ensures fault { (n : ℕ) (f : FaultValue) → result ≡ Err (RecordFault.Line n f)
+        → IsFirstFault (lines_of bytes.now) n f }
     ensures no_other { (r : List LineValue) → AreLines (lines_of bytes.now) r
         → (result ≡ Ok r) ⊎ (result ≡ Err RecordFault.Memory) }
     ensures no_other_fault { (n : ℕ) (f : FaultValue) → IsFirstFault (lines_of bytes.now) n f

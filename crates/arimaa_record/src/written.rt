@@ -125,7 +125,8 @@ pub fn push_line(alloc: Global, text: &mut Vec<u8>, line: &RecordLine) -> Result
 /// boards are fit, each turn has a step, and each setup is of its label's side.
 pub fn record_text(alloc: Global, record: &Record) -> Result<Vec<u8>, AllocError>
     ensures text { IfOk result (λ text. text.items ≡ text_of_record «record».now) }
-    ensures reads_back { IfOk result (λ text. AllByRecursion IsWritable «record».now → AreLines (lines_of text.items) «record».now) }
+    ensures reads_back { IfOk result (λ text. AllByRecursion IsWritable «record».now
+        → AreLines (lines_of text.items) «record».now) }
 {
     let mut text = Vec::new(alloc);
     for line in record.lines() {

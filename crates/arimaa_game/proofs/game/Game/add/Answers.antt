@@ -19,3 +19,6 @@ pub returns-clause-ending : goal.returns-clause-ending
 returns-clause-ending c =
     let now = ap present c.in_ok-push.ensures.pushed ∙ present-push c.self.inside.history c.args.reached in
     c.ending_at-ending.ensures ∙ sym (ending-present c.push.new.self c.args.reached now)
+
+pub returns-clause-answer : goal.returns-clause-answer
+returns-clause-answer c = (invariant_of-self-2 c).ending
