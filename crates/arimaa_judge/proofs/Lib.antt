@@ -1,0 +1,4 @@
+pub mod FaultLaws
+pub mod TurnLaws
+pub mod Accepting
+pub mod JudgedLines

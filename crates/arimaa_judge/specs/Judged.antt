@@ -1,0 +1,56 @@
+-- What a record is: lawful, with its game, or bad at its first bad line.
+use Rattle.std.specs.Prelude.{◌≡◌, ◌⊎◌, ℕ, ◌+◌, List, [], ◌∷◌, Option, None, Some, All, is_some, if◌then◌else◌}
+use Rattle.arimaa_board.specs.Fit.{IsFit}
+use Rattle.arimaa_model.specs.declared.ending.Ending.{Ending}
+use Rattle.arimaa_model.specs.Game.{ending}
+use Rattle.arimaa_game.specs.Play.{AreLawful}
+use Rattle.arimaa_record.specs.Grammar.{IsLineReading}
+use Rattle.arimaa_record.specs.Lines.{lines_of}
+use Rattle.arimaa_record.specs.declared.label.Label.{Label}
+use Rattle.arimaa_judge.specs.declared.judging.Judged.{Judged}
+use Rattle.arimaa_judge.specs.declared.judging.Judged.TheVariants.{Lawful, Bad}
+use Rattle.arimaa_judge.specs.declared.rule.Rule.{Rule}
+use Rattle.arimaa_judge.specs.Stand.{Reading, Stand, after_reading, fresh, stand_ending}
+use Rattle.arimaa_judge.specs.Standing.{IsByWord}
+use Rattle.arimaa_judge.specs.Rules.{rule_at}
+
+-- a record whose lines broke no rule
+abbrev pub lawful_of : Stand → Judged
+lawful_of s = Lawful s.history s.turns (stand_ending s) s.due
+
+-- the outcome at a line: where it breaks a rule the record is bad there, and else it is what the later lines make it
+abbrev pub IsOutcome : Option Rule → ℕ → Label → Judged → Type 0 → Type 0
+IsOutcome (Some rule) number due judged later = judged ≡ Bad number due rule
+IsOutcome None number due judged later = later
+
+-- the judgement of these lines, the first of which has this number, where the record stands so before them
+abbrev pub IsJudgedFrom : Stand → ℕ → List (List ℕ) → Judged → Type 0
+IsJudgedFrom s number [] judged = judged ≡ lawful_of s
+IsJudgedFrom s number (line ∷ later) judged =
+    (r : Reading) × IsLineReading line r × IsOutcome (rule_at s r) number s.due judged (IsJudgedFrom (after_reading s r) (number + 1) later judged)
+
+-- what a line does to how a record stands: where it breaks a rule, all stays
+pub record TakesLine (s : Stand) (line : List ℕ) (broken : Option Rule) (later : Stand) : Type 0 where
+  pub reading : Reading
+  pub read : IsLineReading line reading
+  pub rule : rule_at s reading ≡ broken
+  pub after : later ≡ (if is_some broken then s else after_reading s reading)
+
+-- the judgement of an input: its lines are taken in order, counted from 1
+abbrev pub IsJudged : List ℕ → Judged → Type 0
+IsJudged bytes judged = IsJudgedFrom fresh 1 (lines_of bytes) judged
+
+-- each position of a lawful record's game has a fit board
+abbrev pub HasFitBoards : Judged → Type 0
+HasFitBoards (Lawful history turns ended next) = All (λ q. IsFit q.board) history
+HasFitBoards (Bad number due rule) = Unit {0}
+
+-- in the game of a lawful record each position after the first is one that the rules of the game allow after those before it, which had not ended the game
+abbrev pub HasLawfulTurns : Judged → Type 0
+HasLawfulTurns (Lawful history turns ended next) = AreLawful history
+HasLawfulTurns (Bad number due rule) = Unit {0}
+
+-- the game of a lawful record has ended as the rules say, or by a word
+abbrev pub HasEnding : Judged → Type 0
+HasEnding (Lawful history turns ended next) = (ended ≡ ending history) ⊎ ((e : Ending) × (ended ≡ Some e) × IsByWord e)
+HasEnding (Bad number due rule) = Unit {0}
