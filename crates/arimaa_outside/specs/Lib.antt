@@ -1,5 +1,12 @@
+pub mod Answers
 pub mod Calls
+pub mod Counts
 pub mod Faults
+pub mod MemClock
+pub mod MemPort
 pub mod MemSink
 pub mod MemSource
+pub mod MemSpawner
+pub mod OpenAnswers
 pub mod Status
+pub mod Told

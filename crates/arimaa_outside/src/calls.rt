@@ -1,6 +1,7 @@
 //! The calls of an object in memory, some of which are to fail.
 ghost use Rattle.std.specs.Prelude.{◌≡◌, ◌+◌, ◌-◌, ◌^◌, ◌≤◌, ◌↔◌, min, IsErr, IsTrue, OnErr, OnOk, Contains};
 ghost use Rattle.arimaa_outside.specs.Calls.{NextFails, after_fault, after_success};
+ghost use Rattle.arimaa_outside.specs.Counts.{capped_sum};
 
 use crate::failed::Failed;
 use std::marker::Model;
@@ -56,6 +57,21 @@ impl Calls {
     {
         self.faults = self.faults.saturating_add(1);
         Failed
+    }
+
+    /// How many faults were counted.
+    pub fn faults(&self) -> u64
+        ensures { result ≡ self.now.faults }
+    {
+        self.faults
+    }
+
+    /// Counts the faults of another object, too.
+    pub fn add_faults(&mut self, more: u64)
+        ensures counted { self.new ≡ record self.old { faults = capped_sum self.old.faults more } }
+        ensures never_falls { self.old.faults ≤ self.new.faults }
+    {
+        self.faults = self.faults.saturating_add(more);
     }
 }
 

@@ -5,52 +5,40 @@ use std::io;
 use std::io::{ErrorKind, Read, Write};
 use std::test::Fail;
 
-// Five bytes, two at a time: the fourth call is the first that gives none.
-fn five_bytes(alloc: Global, fails: &[u64]) -> Result<MemSource, AllocError> {
-    let bytes = Vec::from_slice(alloc, &[1, 2, 3, 4, 5])?;
-    Ok(MemSource::new(bytes, 2, Vec::from_slice(alloc, fails)?))
-}
-
 #[test]
-fn an_input_in_memory(rt: HostRuntime) -> Result<(), Fail> {
+fn a_port_in_memory(rt: HostRuntime) -> Result<(), Fail> {
     let alloc = rt.alloc();
-    for (fails, want) in [
-        (0, Ok(5)),
-        (1, Err(ReadAll::Fault)),
-        (3, Err(ReadAll::Fault)),
-        (4, Err(ReadAll::Fault)),
-        (5, Ok(5)),
-    ] {
-        let read = read_all(alloc, &mut five_bytes(alloc, &[fails])?);
-        assert_eq!(rt;
-            read.map(|bytes| bytes.len()),
-            want,
-            "where call {fails} fails"
-        );
-    }
-    // The first two bytes are lost, and the next reading goes on after them.
-    let mut source = five_bytes(alloc, &[2])?;
-    assert!(rt; read_all(alloc, &mut source).is_err());
-    assert_eq!(rt;
-        read_all(alloc, &mut source)?.as_slice(),
-        [3, 4, 5].as_slice()
-    );
+    let mut script = Vec::new(alloc);
+    script.push(Said::Line(Bytes::new(Vec::from_slice(alloc, b"aeiok")?)))?;
+    let too_long = vec![in alloc; b'x'; LINE_LIMIT + 1]?;
+    script.push(Said::Line(Bytes::new(too_long)))?;
+    let mut port = MemPort::new(alloc, script, Vec::from_slice(alloc, &[2])?);
+    let mut line = Vec::new(alloc);
+    port.send(b"aei")?;
+    assert_eq!(rt; port.receive(&mut line), Err(PortFault::Failed));
+    assert_eq!(rt; port.receive(&mut line), Ok(Heard::Line));
+    assert_eq!(rt; line.as_slice(), b"aeiok".as_slice());
+    assert_eq!(rt; port.receive(&mut line), Ok(Heard::Long));
+    assert_eq!(rt; port.receive(&mut line), Ok(Heard::Ended));
+    assert_eq!(rt; port.sent(0), Some(b"aei".as_slice()));
+    assert_eq!(rt; port.sent(1), None);
     Ok(())
 }
 
 #[test]
-fn an_output_in_memory(rt: HostRuntime) -> Result<(), Fail> {
+fn a_spawner_and_a_clock_in_memory(rt: HostRuntime) -> Result<(), Fail> {
     let alloc = rt.alloc();
-    for (fails, want) in [(0, "hello"), (1, ""), (2, "he"), (3, "hell"), (4, "hello")] {
-        let mut sink = MemSink::new(alloc, 2, Vec::from_slice(alloc, &[fails])?);
-        let written = write_all(&mut sink, b"hello");
-        assert_eq!(rt;
-            written.is_ok(),
-            want.len() == 5,
-            "where call {fails} fails"
-        );
-        assert_eq!(rt; sink.written(), want.as_bytes(), "where call {fails} fails");
-    }
+    let mut ports = Vec::new(alloc);
+    ports.push(MemPort::new(alloc, Vec::new(alloc), Vec::new(alloc)))?;
+    ports.push(MemPort::new(alloc, Vec::new(alloc), Vec::new(alloc)))?;
+    let mut spawner = MemSpawner::new(alloc, ports, Vec::new(alloc))?;
+    let gold = spawner.open("gold")?;
+    let silver = spawner.open("silver")?;
+    spawner.close(gold);
+    spawner.close(silver);
+    assert_eq!(rt; spawner.open("third").err(), Some(PortFault::Failed));
+    let mut clock = MemClock::new(Vec::from_slice(alloc, &[5, 9])?);
+    assert_eq!(rt; (clock.moment(), clock.moment(), clock.moment()), (5, 9, 9));
     Ok(())
 }
 
