@@ -1,8 +1,8 @@
 //! `arimaa`: proved answers about the board game Arimaa.
 #![tactic(auto)]
 
-use arimaa_cli::{run_prove, run_still};
-use arimaa_outside::{CommandWords, Status, StdSink, StdSource};
+use arimaa_cli::run;
+use arimaa_outside::{CommandWords, MemClock, MemSpawner, Status, StdSink, StdSource};
 use std::alloc::{AllocError, Global};
 use std::process::ExitCode;
 use std::rt::Env;
@@ -28,22 +28,32 @@ fn command_words(rt: &(impl Env + AllocGlobal)) -> Result<CommandWords, AllocErr
     Ok(words)
 }
 
-// Runs the command that the words ask for, on standard input and standard output.
-fn run<R: Threads + Sync + Env + AllocGlobal + Input + Print>(rt: &R) -> Status {
-    match command_words(rt) {
-        Ok(words) => {
-            let mut input = StdSource::new(rt.reader());
-            let mut output = StdSink::new(io::writer(rt));
-            if words.get(0) == Some("control") {
-                run_still(rt.alloc(), &words, &mut input, &mut output)
-            } else {
-                run_prove(rt, rt.alloc(), &words, &mut input, &mut output)
-            }
-        }
-        Err(_) => Status::Memory,
-    }
+// Runs the command that the words ask for, on standard input and standard output. No command starts an
+// engine or asks for the time yet, so there is no engine to start, and the clock stands at 0.
+fn answer<R: Threads + Sync + Env + AllocGlobal + Input + Print>(
+    rt: &R,
+    alloc: Global,
+) -> Result<Status, AllocError> {
+    let words = command_words(rt)?;
+    let mut input = StdSource::new(rt.reader());
+    let mut output = StdSink::new(io::writer(rt));
+    let mut spawner = MemSpawner::new(alloc, Vec::new(alloc), Vec::new(alloc))?;
+    let mut clock = MemClock::new(Vec::new(alloc));
+    Ok(run(
+        rt,
+        alloc,
+        &words,
+        &mut input,
+        &mut output,
+        &mut spawner,
+        &mut clock,
+    ))
 }
 
 fn main(rt: HostRuntime) -> ExitCode {
-    ExitCode::from(run(&rt).code())
+    let status = match answer(&rt, rt.alloc()) {
+        Ok(status) => status,
+        Err(_) => Status::Memory,
+    };
+    ExitCode::from(status.code())
 }

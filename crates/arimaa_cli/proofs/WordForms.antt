@@ -4,7 +4,8 @@ use Rattle.std.specs.Prelude.{◌↔◌, codes, slice_get}
 use Rattle.std.specs.Fmt.{decimal}
 use Rattle.arimaa_board.specs.declared.piece.Color.{Color}
 use Rattle.arimaa_cli.specs.declared.words.Asked.{Asked}
-use Rattle.arimaa_cli.specs.Words.{side_word, AsksProve}
+use Rattle.arimaa_judge.specs.Texts.{side_word}
+use Rattle.arimaa_cli.specs.Words.{AsksProve}
 
 three : (ws : List (List ℕ)) (p s d : List ℕ) → length ws ≡ 3 → Some p ≡ slice_get ws 0 → Some s ≡ slice_get ws 1 → Some d ≡ slice_get ws 2 → ws ≡ p ∷ s ∷ d ∷ []
 three (x ∷ y ∷ z ∷ []) p s d l a b c = cc
@@ -33,3 +34,8 @@ form_law ws p s d a n l get0 get1 get2 name side depth asked =
           let n_same : n ≡ asked.depth = cc in
           λ i. Some (record { attacker = a_same i; depth = n_same i }),
     )
+
+pub one : (ws : List (List ℕ)) (w : List ℕ) → length ws ≡ 1 → Some w ≡ slice_get ws 0 → ws ≡ w ∷ []
+one (x ∷ []) w l e = cc
+one [] w l e = cc
+one (x ∷ y ∷ ws) w l e = absurd (omega arith)

@@ -9,7 +9,7 @@ use Rattle.arimaa_time.specs.declared.control.GameLimit.TheVariants as limits
 use Rattle.arimaa_time.specs.declared.fault.ControlFault.TheVariants.{Field}
 use Rattle.arimaa_time.specs.Fields.{IsControl, NamesFirstBad, fields}
 use Rattle.arimaa_time.specs.Writing.{text_of}
-use Rattle.arimaa_cli.specs.Texts.{line}
+use Rattle.arimaa_judge.specs.Texts.{line}
 
 -- the words ask for this time control, a text that isn't empty and begins with no dash
 pub record AsksControl (words : List (List ℕ)) (text : List ℕ) : Type 0 where
@@ -33,11 +33,17 @@ values_of c =
 abbrev pub control_lines : Control → List ℕ
 control_lines c = line (text_of c) ++ line (values_of c)
 
--- what control answers to words
-pub data IsControlAnswer (words : List (List ℕ)) : Status → List ℕ → Type 0 where
-  -- the words are not in the command's form
-  misworded : ((text : List ℕ) → AsksControl words text → ⊥) → IsControlAnswer words Words (line (codes "bad words"))
+-- what control answers to a text
+pub data IsControlAnswer (text : List ℕ) : Status → List ℕ → Type 0 where
   -- the text is this control's
-  read : (text : List ℕ) → AsksControl words text → (c : Control) → IsControl text c → IsControlAnswer words Done (control_lines c)
+  read : (c : Control) → IsControl text c → IsControlAnswer text Done (control_lines c)
   -- the text is no control's: its first bad field
-  refused : (text : List ℕ) → AsksControl words text → (k : ℕ) → NamesFirstBad (fields text) (Field k) → IsControlAnswer words Answered (line (codes "control field " ++ decimal k))
+  refused : (k : ℕ) → NamesFirstBad (fields text) (Field k) → IsControlAnswer text Answered (line (codes "control field " ++ decimal k))
+
+-- what control answers to words
+pub data IsControlDefined (words : List (List ℕ)) : Status → List ℕ → Type 0 where
+  -- the words are not in the command's form
+  misworded : ((text : List ℕ) → AsksControl words text → ⊥) → IsControlDefined words Words (line (codes "bad words"))
+  -- the text is answered
+  answered : (asked : List ℕ) → AsksControl words asked
+      → (status : Status) (text : List ℕ) → IsControlAnswer asked status text → IsControlDefined words status text

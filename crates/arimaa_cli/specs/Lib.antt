@@ -1,11 +1,10 @@
-pub mod Number
 pub mod Words
-pub mod Label
-pub mod StartLine
 pub mod Texts
-pub mod Judged
+pub mod Closing
+pub mod Show
 pub mod Answers
 pub mod Verdicts
-pub mod Agreement
-pub mod Headline
 pub mod ControlCommand
+pub mod Defined
+pub mod Headline
+pub mod Agreement

@@ -3,33 +3,24 @@ use Rattle.std.specs.Prelude.{ℕ, List, [], ◌∷◌, ◌++◌, codes}
 use Rattle.std.specs.List.{flat_map}
 use Rattle.std.specs.Fmt.{decimal}
 use Rattle.arimaa_board.specs.declared.board.Board.{Board}
-use Rattle.arimaa_board.specs.declared.piece.Color.{Color}
-use Rattle.arimaa_board.specs.declared.piece.Color.TheVariants.{Gold, Silver}
 use Rattle.arimaa_board.specs.declared.position.Step.{Step}
 use Rattle.arimaa_board.specs.declared.turn.NotedStep.{NotedStep}
 use Rattle.arimaa_board.specs.Text.{text_of}
+use Rattle.arimaa_judge.specs.Texts.{cause_word, line}
+use Rattle.arimaa_model.specs.declared.ending.Word.{Word}
+use Rattle.arimaa_model.specs.Game.{cause_of}
 use Rattle.arimaa_model.specs.Moves.{after}
 use Rattle.arimaa_model.specs.Marks.{removed_by}
 use Rattle.arimaa_model.specs.Strategies.{Planned}
 use Rattle.arimaa_notation.specs.Written.{text_of_turn}
-use Rattle.arimaa_cli.specs.declared.label.Label.{Label}
 
--- the bytes as a line
-abbrev pub line : List ℕ → List ℕ
-line bytes = bytes ++ 10 ∷ []
+-- a record that a word closed: the cause
+abbrev pub ended_text : Word → List ℕ
+ended_text word = line (codes "ended " ++ cause_word (cause_of word))
 
--- the letter of a side in a label
-abbrev pub side_letter : Color → ℕ
-side_letter Gold = 103
-side_letter Silver = 115
-
--- a label: its number, and the letter of its side
-abbrev pub label_text : Label → List ℕ
-label_text due = decimal due.number ++ side_letter due.side ∷ []
-
--- a bad record: the number of its first bad line, the label that is due there, and the rule that it breaks
-abbrev pub bad_text : ℕ → Label → List ℕ → List ℕ
-bad_text number due rule = line (codes "bad " ++ decimal number ++ 32 ∷ label_text due ++ 32 ∷ rule)
+-- a record that has no position yet
+abbrev pub no_position : List ℕ
+no_position = line (codes "no position")
 
 -- the steps of a turn, each with the piece that it removes
 abbrev pub noted_of : Board → List Step → List NotedStep

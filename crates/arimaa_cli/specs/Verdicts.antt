@@ -4,16 +4,17 @@ use Rattle.std.specs.Fmt.{decimal}
 use Rattle.arimaa_board.specs.declared.piece.Color.{Color}
 use Rattle.arimaa_board.specs.declared.position.Position.{Position}
 use Rattle.arimaa_board.specs.Text.{text_of}
+use Rattle.arimaa_judge.specs.Texts.{line}
 use Rattle.arimaa_model.specs.Wins.{wins}
 use Rattle.arimaa_model.specs.Ranks.{IsRank}
 use Rattle.arimaa_model.specs.Strategies.{Planned, strategy_of}
 use Rattle.arimaa_notation.specs.Written.{text_of_turn}
 use Rattle.arimaa_outside.specs.declared.status.Status.{Status}
 use Rattle.arimaa_outside.specs.declared.status.Status.TheVariants.{Answered, Done}
-use Rattle.arimaa_cli.specs.declared.question.Entry.{Entry}
-use Rattle.arimaa_cli.specs.declared.question.Verdict.{Verdict}
-use Rattle.arimaa_cli.specs.declared.question.Verdict.TheVariants.{No, Yes}
-use Rattle.arimaa_cli.specs.Texts.{line, noted_of}
+use Rattle.arimaa_cli.specs.declared.winning.Entry.{Entry}
+use Rattle.arimaa_cli.specs.declared.winning.Verdict.{Verdict}
+use Rattle.arimaa_cli.specs.declared.winning.Verdict.TheVariants.{No, Yes}
+use Rattle.arimaa_cli.specs.Texts.{noted_of}
 
 -- an entry is this one of a strategy, its turn with the right removal marks
 pub record IsEntryOf (e : Entry) (q : Planned) : Type 0 where

@@ -1,16 +1,12 @@
 //! The command `control`.
 ghost use Rattle.std.specs.Prelude.{◌≡◌, ◌≢◌, ◌<◌, ◌⊎◌, ◌↔◌, ◌++◌, ◌∷◌, [], ℕ, List, Some, IfOk, IsTrue, OnOk, codes, length, option_map, slice_index};
 ghost use Rattle.std.specs.Fmt.{decimal};
-ghost use Rattle.arimaa_outside.specs.Faults.{HasRisen};
-ghost use Rattle.arimaa_outside.specs.declared.status.Status.{Status as Ended};
 ghost use Rattle.arimaa_outside.specs.declared.status.Status.TheVariants as outcome;
 ghost use Rattle.arimaa_time.specs.declared.fault.ControlFault.TheVariants.{Field};
-ghost use Rattle.arimaa_cli.specs.Answers.{EndsWith};
 ghost use Rattle.arimaa_cli.specs.ControlCommand.{AsksControl, IsControlAnswer, control_lines, game_value, values_of};
 
-use crate::answering::Answer;
-use crate::prove::say;
-use arimaa_outside::{CommandWords, Sink, Source, Status};
+use crate::answer::Answer;
+use arimaa_outside::{CommandWords, Status};
 use arimaa_time::{Control, ControlFault, GameLimit, control_text, read_control};
 use std::alloc::{AllocError, Global};
 
@@ -37,7 +33,7 @@ fn has_form(word: &[u8]) -> bool
 }
 
 // The text that the words ask about.
-fn asked_text(words: &CommandWords) -> Option<&str>
+pub(crate) fn asked_text(words: &CommandWords) -> Option<&str>
     ensures { (text : List ℕ) → (option_map (λ word. word.now) result ≡ Some text) ↔ AsksControl words.now text }
 {
     if words.len() != 2 || !is_control(words.get(0)?) {
@@ -119,8 +115,8 @@ fn field_of(fault: ControlFault) -> u8
 }
 
 // What a text is answered.
-fn control_answer(alloc: Global, text: &[u8]) -> Result<Answer, AllocError>
-    ensures answer { IfOk result (λ answer. (words : List (List ℕ)) → AsksControl words text.now → IsControlAnswer words answer.status answer.text.items) }
+pub(crate) fn control_answer(alloc: Global, text: &[u8]) -> Result<Answer, AllocError>
+    ensures answer { IfOk result (λ answer. IsControlAnswer text.now answer.status answer.text.items) }
     ensures ended { IfOk result (λ answer. (answer.status ≡ outcome.Done) ⊎ (answer.status ≡ outcome.Answered)) }
 {
     match read_control(text) {
@@ -135,33 +131,5 @@ fn control_answer(alloc: Global, text: &[u8]) -> Result<Answer, AllocError>
                 text,
             })
         }
-    }
-}
-
-/// Runs a command that starts no thread and waits for nobody: today `control TEXT`, which reads a time
-/// control and writes its usual form and its six values. Nothing is read from the input.
-///
-/// TEXT is not empty and does not begin with `-`.
-pub fn run_still<I: Source, O: Sink>(
-    alloc: Global,
-    words: &CommandWords,
-    input: &mut I,
-    output: &mut O,
-) -> Status
-    // What the words define is written, whole, unless a write failed or memory was wanting.
-    ensures answer { result ≢ outcome.Memory → (ended : Ended) × (text : List ℕ) × IsControlAnswer words.now ended text
-        × EndsWith result (O.contents output.old) (O.contents output.new) ended text }
-    ensures words { result ≡ outcome.Words → (text : List ℕ) → AsksControl words.now text → ⊥ }
-    ensures write_fault { result ≡ outcome.WriteFault → HasRisen (O.faults output.old) (O.faults output.new) }
-    ensures unwritten { result ≡ outcome.Memory → O.contents output.new ≡ O.contents output.old }
-    ensures unread { input.new ≡ input.old }
-{
-    let _ = &input;
-    let Some(text) = asked_text(words) else {
-        return say(output, Status::Words, b"bad words\n");
-    };
-    match control_answer(alloc, text.as_bytes()) {
-        Err(_) => Status::Memory,
-        Ok(answer) => say(output, answer.status, &answer.text),
     }
 }

@@ -1,21 +1,22 @@
 //! The commands: from the words and the bytes that come in to the bytes and the status that go out.
 #![tactic(auto)]
 
-mod answering;
+mod answer;
 mod control_command;
-mod label;
+mod dispatch;
+mod judging;
 mod laws;
-mod number;
 mod prove;
-mod question;
-mod start_line;
+mod proving;
+mod replying;
+mod showing;
+mod still;
+mod winning;
 mod words;
 
-pub use control_command::run_still;
-pub use label::{Label, MOST_LABEL, read_label};
+pub use dispatch::run;
 pub use laws::answers_agree;
-pub use number::read_number;
 pub use prove::run_prove;
-pub use question::{Entry, Verdict};
-pub use start_line::{StartLine, read_start_line};
-pub use words::{Asked, MOST_TURNS, read_prove};
+pub use still::run_still;
+pub use winning::{Entry, Verdict};
+pub use words::{Asked, MOST_TURNS, Question, read_prove, read_still};

@@ -1,42 +1,33 @@
 //! The command `prove`.
-ghost use Rattle.std.specs.Prelude.{◌≡◌, ◌≢◌, ◌<◌, ◌≤◌, ◌⊎◌, ℕ, List, Some, IfOk, IfSome, [], length, option_map};
+ghost use Rattle.std.specs.Prelude.{◌≡◌, ◌≢◌, ◌<◌, ◌≤◌, ◌⊎◌, ℕ, List, Some, IfSome, [], length, option_map};
 ghost use Rattle.arimaa_outside.specs.Faults.{HasRisen};
 ghost use Rattle.arimaa_outside.specs.declared.status.Status.{Status as Ended};
 ghost use Rattle.arimaa_outside.specs.declared.status.Status.TheVariants as outcome;
-ghost use Rattle.arimaa_cli.specs.Answers.{IsAnswer, IsDefined, EndsWith};
-ghost use Rattle.arimaa_cli.specs.Headline.{SaysYes, SaysNo, SaysBad, SaysUnbuilt, Gained};
+ghost use Rattle.arimaa_cli.specs.Answers.{EndsWith};
+ghost use Rattle.arimaa_cli.specs.Defined.{IsDefined};
+ghost use Rattle.arimaa_cli.specs.Headline.{SaysYes, SaysUnproved, SaysUnbuilt, Gained};
 ghost use Rattle.arimaa_cli.specs.Words.{AsksProve};
-ghost use Rattle.arimaa_cli.specs.declared.words.Asked.{Asked as Question};
+ghost use Rattle.arimaa_cli.specs.declared.words.Asked.{Asked as Inquiry};
 
-use crate::answering::answer_to;
-use crate::words::read_prove;
-use arimaa_outside::{
-    CommandWords, INPUT_LIMIT, ReadAll, Sink, Source, Status, read_all, write_all,
-};
+use crate::answer::say;
+use crate::replying::reply;
+use crate::words::{Question, read_prove};
+use arimaa_outside::{CommandWords, INPUT_LIMIT, Sink, Source, Status};
 use std::alloc::Global;
 use std::thread::Threads;
 
 /// The most turns that a question may ask about today.
 const MOST_BUILT: u8 = 1;
 
-// Writes the text of an answer, and ends with its status, or with the status of a write that failed.
-pub(crate) fn say<O: Sink>(output: &mut O, status: Status, text: &[u8]) -> Status
-    ensures ends { EndsWith result (O.contents output.old) (O.contents output.new) status text.now }
-    ensures fault { (result ≡ status) ⊎ ((result ≡ outcome.WriteFault) × HasRisen (O.faults output.old) (O.faults output.new)) }
-{
-    match write_all(output, text) {
-        Ok(()) => status,
-        Err(_) => Status::WriteFault,
-    }
-}
-
 /// Runs the command `prove`: whether a side wins in at most so many turns, together of both sides,
 /// from the position that the input's record ends with.
 ///
 /// The words are `prove`, a side, `gold` or `silver`, and a number of turns from 0 to 20. The input is
 /// read to its end before anything is written, and every text is whole before its first byte is
-/// written. Today a record is one start line, and a question asks about one turn at most; what isn't
-/// built yet is answered `not built`. Nobody is waited for.
+/// written. A bad record is answered by its first fault, then a record that a word closed by its cause,
+/// then one without a position. A game that the rules have ended gets its verdict like any other. Today
+/// a question asks about one turn at most; for more turns the answer is `not built`, and nothing is
+/// read. Nobody is waited for.
 pub fn run_prove<R: Threads + Sync, I: Source, O: Sink>(
     _rt: &R,
     alloc: Global,
@@ -50,18 +41,17 @@ pub fn run_prove<R: Threads + Sync, I: Source, O: Sink>(
         → (ended : Ended) × (text : List ℕ) × IsDefined words.now given ended text
         × EndsWith result (O.contents output.old) (O.contents output.new) ended text }
 
-    // What each answer says: a forced win with its rank and strategy; none, or the first fault of a
-    // bad record; what isn't built yet.
+    // What each answer says: a forced win with its rank and strategy; the first fault of a bad record,
+    // one that a word closed, one without a position, or no win; what isn't built yet.
     ensures yes { (given : List ℕ) → I.remaining input.old ≡ Some given → result ≡ outcome.Done
         → Gained (SaysYes words.now given) (O.contents output.old) (O.contents output.new) }
-    ensures no_or_bad { (given : List ℕ) → I.remaining input.old ≡ Some given → result ≡ outcome.Answered
-        → Gained (λ text. SaysNo words.now given text ⊎ SaysBad words.now given text) (O.contents output.old) (O.contents output.new) }
-    ensures not_built { (given : List ℕ) → I.remaining input.old ≡ Some given → result ≡ outcome.NotBuilt
-        → Gained (SaysUnbuilt words.now given) (O.contents output.old) (O.contents output.new) }
+    ensures answered { (given : List ℕ) → I.remaining input.old ≡ Some given → result ≡ outcome.Answered
+        → Gained (SaysUnproved words.now given) (O.contents output.old) (O.contents output.new) }
+    ensures not_built { result ≡ outcome.NotBuilt → Gained (SaysUnbuilt words.now) (O.contents output.old) (O.contents output.new) }
 
     // The words alone decide whether they are in form.
-    ensures words { result ≡ outcome.Words → (asked : Question) → AsksProve words.now asked → ⊥ }
-    ensures misworded { ((asked : Question) → AsksProve words.now asked → ⊥) → (result ≡ outcome.Words) ⊎ (result ≡ outcome.WriteFault) }
+    ensures words { result ≡ outcome.Words → (asked : Inquiry) → AsksProve words.now asked → ⊥ }
+    ensures misworded { ((asked : Inquiry) → AsksProve words.now asked → ⊥) → (result ≡ outcome.Words) ⊎ (result ≡ outcome.WriteFault) }
 
     // Each failure of the outside is one that was counted in this call, and an input that is too long
     // has too many bytes.
@@ -70,8 +60,10 @@ pub fn run_prove<R: Threads + Sync, I: Source, O: Sink>(
     ensures too_long { result ≡ outcome.TooLong → IfSome (I.remaining input.old) (λ left. INPUT_LIMIT < length left) }
     ensures unwritten { (result ≡ outcome.ReadFault) ⊎ (result ≡ outcome.Memory) → O.contents output.new ≡ O.contents output.old }
 
-    // An answer says that the input was read to its end.
+    // An answer about a record says that the input was read to its end, and without a question that is
+    // built nothing is read.
     ensures whole { (result ≡ outcome.Done) ⊎ (result ≡ outcome.Answered) → I.remaining input.new ≡ option_map (λ _. []) (I.remaining input.old) }
+    ensures unread { ((asked : Inquiry) → AsksProve words.now asked → asked.depth ≤ 1 → ⊥) → input.new ≡ input.old }
 
     // The other statuses are of other commands, or of questions that aren't built yet.
     ensures others { (result ≢ outcome.EngineFault) × (result ≢ outcome.Spent) × (result ≢ outcome.Crowded) }
@@ -82,13 +74,5 @@ pub fn run_prove<R: Threads + Sync, I: Source, O: Sink>(
     if asked.depth > MOST_BUILT {
         return say(output, Status::NotBuilt, b"not built\n");
     }
-    match read_all(alloc, input) {
-        Err(ReadAll::Fault) => Status::ReadFault,
-        Err(ReadAll::TooLong) => say(output, Status::TooLong, b"too long\n"),
-        Err(ReadAll::Memory) => Status::Memory,
-        Ok(bytes) => match answer_to(alloc, &asked, &bytes) {
-            Err(_) => Status::Memory,
-            Ok(answer) => say(output, answer.status, &answer.text),
-        },
-    }
+    reply(alloc, &Question::Prove(asked), input, output)
 }
