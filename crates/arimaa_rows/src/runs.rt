@@ -1,6 +1,7 @@
 //! Runs of commands over objects in memory.
 use arimaa_outside::{CommandWords, MemClock, MemSink, MemSource, MemSpawner, Status};
 use std::alloc::{AllocError, Global};
+use std::process::Abort;
 use std::test::Fail;
 use std::thread::Threads;
 
@@ -46,7 +47,10 @@ pub struct Row<'a> {
 }
 
 // Runs each example.
-pub fn check<R: Threads + Sync + AllocGlobal>(rt: &R, rows: &[Row<'_>]) -> Result<(), Fail> {
+pub fn check<R: Threads + Sync + AllocGlobal + Abort>(
+    rt: &R,
+    rows: &[Row<'_>],
+) -> Result<(), Fail> {
     for row in rows {
         let done = run(rt, row.words, &Outside::plain(row.input.as_bytes()))?;
         assert_eq!(rt; done.status, row.status, "{}: {}", row.words, row.input);
