@@ -17,6 +17,7 @@ pub(crate) fn is_blank(reading: &Reading) -> bool
     }
 }
 
+// The same of a line that could be read.
 fn is_blank_line(line: &RecordLine) -> bool
     ensures { result ≡ is_blank_line (Ok line.now) }
 {
@@ -36,6 +37,7 @@ pub(crate) fn has_no_form(reading: &Reading) -> bool
     }
 }
 
+// The same of a line with this fault.
 fn is_text_fault(fault: &LineFault) -> bool
     ensures { result ≡ has_no_form (Err fault.now) }
 {
@@ -55,6 +57,7 @@ pub(crate) fn has_too_many_steps(reading: &Reading) -> bool
     }
 }
 
+// The same of a line with this fault.
 fn is_steps_fault(fault: &LineFault) -> bool
     ensures { result ≡ has_too_many_steps (Err fault.now) }
 {
@@ -74,6 +77,7 @@ pub(crate) fn is_start(reading: &Reading) -> bool
     }
 }
 
+// The same of a line that could be read.
 fn is_start_line(line: &RecordLine) -> bool
     ensures { result ≡ is_start (Ok line.now) }
 {
@@ -83,6 +87,7 @@ fn is_start_line(line: &RecordLine) -> bool
     }
 }
 
+// The same of a line with this fault, which is then a bad one.
 fn is_start_fault(fault: &LineFault) -> bool
     ensures start { result ≡ is_start (Err fault.now) }
     ensures bad { result ≡ is_bad_start (Err fault.now) }
@@ -113,6 +118,7 @@ pub(crate) fn is_setup(reading: &Reading) -> bool
     }
 }
 
+// The same of a line that could be read.
 fn is_setup_line(line: &RecordLine) -> bool
     ensures { result ≡ is_setup (Ok line.now) }
 {
@@ -122,6 +128,7 @@ fn is_setup_line(line: &RecordLine) -> bool
     }
 }
 
+// The same of a line with this fault, which is then a bad one.
 fn is_setup_fault(fault: &LineFault) -> bool
     ensures setup { result ≡ is_setup (Err fault.now) }
     ensures bad { result ≡ is_bad_setup (Err fault.now) }
@@ -152,6 +159,7 @@ pub(crate) fn is_turn(reading: &Reading) -> bool
     }
 }
 
+// The same of a line that could be read.
 fn is_turn_line(line: &RecordLine) -> bool
     ensures { result ≡ is_turn_line (Ok line.now) }
 {
@@ -171,6 +179,7 @@ pub(crate) fn is_bare(reading: &Reading) -> bool
     }
 }
 
+// The same of a line that could be read.
 fn is_bare_line(line: &RecordLine) -> bool
     ensures { result ≡ is_bare (Ok line.now) }
 {
@@ -190,6 +199,7 @@ fn label_in(reading: &Reading) -> Option<Label>
     }
 }
 
+// The same of a line that could be read.
 fn label_in_line(line: &RecordLine) -> Option<Label>
     ensures { result ≡ label_in (Ok line.now) }
 {
@@ -203,6 +213,7 @@ fn label_in_line(line: &RecordLine) -> Option<Label>
     }
 }
 
+// The same of a line with this fault.
 fn label_in_fault(fault: &LineFault) -> Option<Label>
     ensures { result ≡ label_in (Err fault.now) }
 {
