@@ -1,5 +1,5 @@
 -- Each definition of what is answered allows one status and one text.
-use Rattle.std.proofs.Common.{◌≡◌, ◌≤◌, ◌<◌, ℕ, List, [], ◌∷◌, Option, None, Some, true, false, refl, sym, ◌∙◌, ap, subst, arith, true≢false}
+use Rattle.std.proofs.Common.{◌≡◌, ◌≤◌, ℕ, List, [], ◌∷◌, Option, None, Some, true, false, refl, sym, ◌∙◌, ap, subst, arith, true≢false}
 use Rattle.std.specs.Prelude.{codes}
 use Rattle.std.specs.Fmt.{decimal}
 use Rattle.std.proofs.lemmas.Fmt.{decimal_injective}
@@ -29,7 +29,7 @@ use Rattle.arimaa_cli.specs.Answers.IsRead.{long, replied}
 use Rattle.arimaa_cli.specs.Closing.{closing_word}
 use Rattle.arimaa_cli.specs.Show.{text_of_shown}
 use Rattle.arimaa_cli.specs.Texts.{ended_text, yes_text}
-use Rattle.arimaa_cli.specs.Words.{Asks, AsksProve, AsksStill}
+use Rattle.arimaa_cli.specs.Words.{Asks, AsksProve}
 
 one_side : (a b : Color) → side_word a ≡ side_word b → a ≡ b
 one_side Gold Gold e = refl

@@ -1,22 +1,20 @@
 -- Each call's definition of its answer allows one status and one text.
-use Rattle.std.proofs.Common.{◌≡◌, ◌≤◌, ◌<◌, ℕ, List, [], ◌∷◌, Some, refl, sym, ◌∙◌, ap, subst, arith}
+use Rattle.std.proofs.Common.{◌≡◌, ◌≤◌, ◌<◌, ℕ, List, [], ◌∷◌, refl, sym, ◌∙◌, ap, subst, arith}
 use Rattle.std.specs.Prelude.{codes}
 use Rattle.std.specs.Fmt.{decimal}
 use Rattle.arimaa_judge.specs.Agreement.{JudgementsAgree}
 use Rattle.arimaa_judge.specs.Texts.{side_word}
 use Rattle.arimaa_outside.specs.declared.status.Status.{Status}
-use Rattle.arimaa_time.specs.declared.control.Control.{Control}
 use Rattle.arimaa_cli.specs.declared.words.Asked.{Asked}
 use Rattle.arimaa_cli.specs.declared.words.Question.{Question}
 use Rattle.arimaa_cli.specs.declared.words.Question.TheVariants.{Judge, Show, Prove}
 use Rattle.arimaa_cli.specs.Agreement.{AnswersAgree}
 use Rattle.arimaa_cli.specs.ControlCommand.{AsksControl, IsControlAnswer, IsControlDefined}
 use Rattle.arimaa_cli.specs.ControlCommand.IsControlDefined.{misworded as no_text, answered as some_text}
-use Rattle.arimaa_cli.specs.Defined.{IsDefined, IsStill, IsAnswered, IsNoStill, IsNoCommand}
+use Rattle.arimaa_cli.specs.Defined.{IsDefined, IsStillDefined, IsAnswered}
 use Rattle.arimaa_cli.specs.Defined.IsDefined.{misworded, deep, about}
-use Rattle.arimaa_cli.specs.Defined.IsStill.{misworded as no_still, about as still_about, control as still_control}
+use Rattle.arimaa_cli.specs.Defined.IsStillDefined.{misworded as no_still, about as still_about, control as still_control}
 use Rattle.arimaa_cli.specs.Defined.IsAnswered.{misworded as no_command, deep as too_deep, about as any_about, control as any_control}
-use Rattle.arimaa_cli.specs.ControlCommand.IsControlAnswer.{read, refused}
 use Rattle.arimaa_cli.specs.Words.{Asks, AsksProve, AsksStill, IsBuilt}
 use Rattle.arimaa_cli.proofs.Agreeing.{one_asked, one_question, same_read}
 use Rattle.arimaa_cli.proofs.OneControl.{one_answer as one_control_answer}
@@ -56,7 +54,7 @@ control_asked words asked s x asks (no_text never) = absurd (never asked asks)
 control_asked words asked s x asks (some_text a k u v w) = subst (λ (c : List ℕ). IsControlAnswer c u v) (one_text words a asked k asks) w
 
 -- what control answers to words that ask nothing about a record
-pub control_still : (words : List (List ℕ)) (given : List ℕ) (s : Status) (x : List ℕ) → ((q : Question) → AsksStill words q → ⊥) → IsControlDefined words s x → IsStill words given s x
+pub control_still : (words : List (List ℕ)) (given : List ℕ) (s : Status) (x : List ℕ) → ((q : Question) → AsksStill words q → ⊥) → IsControlDefined words s x → IsStillDefined words given s x
 control_still words given s x never (no_text p) = no_still (record { question = never; control = p })
 control_still words given s x never (some_text a k u v w) = still_control a k u v w
 
@@ -76,7 +74,7 @@ module _ (law : JudgementsAgree) where
   same_control : (words : List (List ℕ)) (a b : List ℕ) (s t : Status) (x y : List ℕ) → AsksControl words a → AsksControl words b → IsControlAnswer a s x → IsControlAnswer b t y → (s ≡ t) × (x ≡ y)
   same_control words a b s t x y k n p q = one_control_answer b s t x y (subst (λ (c : List ℕ). IsControlAnswer c s x) (one_text words a b k n) p) q
 
-  pub still_agrees : AnswersAgree IsStill
+  pub still_agrees : AnswersAgree IsStillDefined
   still_agrees words given s t x y (no_still p) (no_still q) = (refl, refl)
   still_agrees words given s t x y (no_still p) (still_about b n v w z) = absurd (p.question b n)
   still_agrees words given s t x y (no_still p) (still_control b n v w z) = absurd (p.control b n)

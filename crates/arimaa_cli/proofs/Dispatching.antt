@@ -1,18 +1,16 @@
 -- What the program answers is what the command of the first word answers.
-use Rattle.std.proofs.Common.{◌≡◌, ℕ, List, [], ◌∷◌, Option, None, Some, sym, ◌∙◌, ap, arith}
+use Rattle.std.proofs.Common.{◌≡◌, ℕ, List, Option, None, Some, sym, ◌∙◌, ap, arith}
 use Rattle.std.specs.Prelude.{codes, slice_get, slice_index}
-use Rattle.std.specs.Fmt.{decimal}
-use Rattle.arimaa_judge.specs.Texts.{side_word}
 use Rattle.arimaa_outside.specs.declared.status.Status.{Status}
 use Rattle.arimaa_cli.specs.declared.words.Asked.{Asked}
 use Rattle.arimaa_cli.specs.declared.words.Question.{Question}
 use Rattle.arimaa_cli.specs.declared.words.Question.TheVariants.{Judge, Show, Prove}
 use Rattle.arimaa_cli.specs.ControlCommand.{AsksControl}
-use Rattle.arimaa_cli.specs.Defined.{IsDefined, IsStill, IsAnswered, IsNoStill, IsNoCommand}
+use Rattle.arimaa_cli.specs.Defined.{IsDefined, IsStillDefined, IsAnswered, IsNoStill, IsNoCommand}
 use Rattle.arimaa_cli.specs.Defined.IsDefined.{misworded, deep, about}
-use Rattle.arimaa_cli.specs.Defined.IsStill.{misworded as no_still, about as still_about, control as still_control}
+use Rattle.arimaa_cli.specs.Defined.IsStillDefined.{misworded as no_still, about as still_about, control as still_control}
 use Rattle.arimaa_cli.specs.Defined.IsAnswered.{misworded as no_command, deep as too_deep, about as any_about, control as any_control}
-use Rattle.arimaa_cli.specs.Words.{Asks, AsksProve, AsksStill, IsBuilt}
+use Rattle.arimaa_cli.specs.Words.{Asks, AsksProve, AsksStill}
 use Rattle.arimaa_cli.proofs.Defining.{still_asks, still_built}
 
 -- the first word is prove
@@ -61,7 +59,7 @@ module _ (words : List (List ℕ)) (given : List ℕ) where
   prove_program status text first (deep asked asks more) = too_deep asked asks more
   prove_program status text first (about asked asks less s x r) = any_about (Prove asked) asks less s x r
 
-  pub still_program : (status : Status) (text : List ℕ) → (IsProve words → ⊥) → IsStill words given status text → IsAnswered words given status text
+  pub still_program : (status : Status) (text : List ℕ) → (IsProve words → ⊥) → IsStillDefined words given status text → IsAnswered words given status text
   still_program status text other (no_still never) = no_command (no_command_still words other never)
   still_program status text other (still_about q asks s x r) = any_about q (still_asks words q asks) (still_built words q asks) s x r
   still_program status text other (still_control asked asks s x r) = any_control asked asks s x r

@@ -1,6 +1,6 @@
 -- A text of control has one answer.
 use Rattle.std.proofs.Common.{◌≡◌, ◌≢◌, ◌<◌, ◌≤◌, ◌-◌, ◌++◌, ℕ, zero, suc, List, length, Option, None, Some, refl, sym, ◌∙◌, ap, subst, arith, ⊎_elim}
-use Rattle.std.specs.Prelude.{Result, Ok, Err, IsSomeAnd, codes, slice_get}
+use Rattle.std.specs.Prelude.{Result, Ok, IsSomeAnd, codes}
 use Rattle.std.specs.Fmt.{decimal}
 use Rattle.std.proofs.lemmas.Bool.{cases_lt}
 use Rattle.std.proofs.lemmas.Option.{slice_get_within}
@@ -68,9 +68,9 @@ one_bad texts j k p q =
     ⊎_elim
     (λ (before : j < k). absurd (both_ways j (field texts j) p.bad (q.earlier j p.counted before)))
     (λ (after : k ≤ j). ⊎_elim
-        (λ (later : k < j). absurd (both_ways k (field texts k) q.bad (p.earlier k q.counted later)))
-        (λ (same : j ≤ k). omega arith)
-        (cases_lt k j))
+    (λ (later : k < j). absurd (both_ways k (field texts k) q.bad (p.earlier k q.counted later)))
+    (λ (same : j ≤ k). omega arith)
+    (cases_lt k j))
     (cases_lt j k)
 
 pub one_answer : (text : List ℕ) (s t : Status) (x y : List ℕ) → IsControlAnswer text s x → IsControlAnswer text t y → (s ≡ t) × (x ≡ y)

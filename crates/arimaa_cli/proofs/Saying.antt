@@ -1,5 +1,5 @@
 -- What is said by each status that a command ends with.
-use Rattle.std.proofs.Common.{◌≡◌, ◌⊎◌, ℕ, List, [], ◌∷◌, Option, None, Some, inl, inr, refl, sym, ◌∙◌, ap}
+use Rattle.std.proofs.Common.{◌≡◌, ℕ, List, [], ◌∷◌, Option, None, inl, inr, refl, sym, ◌∙◌}
 use Rattle.std.specs.Io.KnownBytes.{append_known}
 use Rattle.arimaa_board.specs.declared.position.Position.{Position}
 use Rattle.arimaa_judge.specs.declared.judging.Judged.{Judged}
@@ -9,7 +9,7 @@ use Rattle.arimaa_judge.specs.Judged.{IsJudged}
 use Rattle.arimaa_model.specs.declared.ending.Ending.{Ending}
 use Rattle.arimaa_model.specs.Game.{present}
 use Rattle.arimaa_outside.specs.declared.status.Status.{Status}
-use Rattle.arimaa_outside.specs.declared.status.Status.TheVariants.{Done, Answered, NotBuilt, WriteFault, TooLong}
+use Rattle.arimaa_outside.specs.declared.status.Status.TheVariants.{Done, Answered, WriteFault}
 use Rattle.arimaa_record.specs.declared.label.Label.{Label}
 use Rattle.arimaa_cli.specs.declared.words.Asked.{Asked}
 use Rattle.arimaa_cli.specs.declared.words.Question.{Question}
@@ -21,7 +21,7 @@ use Rattle.arimaa_cli.specs.Answers.IsShown.{empty as unshown, shown}
 use Rattle.arimaa_cli.specs.ControlCommand.{AsksControl, IsControlAnswer, IsControlDefined}
 use Rattle.arimaa_cli.specs.ControlCommand.IsControlDefined.{misworded as no_text, answered as some_text}
 use Rattle.arimaa_cli.specs.ControlCommand.IsControlAnswer.{read, refused}
-use Rattle.arimaa_cli.specs.Headline.{Gained, IsClosedBy, IsUnclosed, SaysAnswered, SaysBad, SaysBadField, SaysControl, SaysDone, SaysEnded, SaysLawful, SaysNo, SaysNoPosition, SaysShown, SaysUnproved, SaysUnshown, SaysYes}
+use Rattle.arimaa_cli.specs.Headline.{Gained, IsClosedBy, IsUnclosed, SaysAnswered, SaysBad, SaysDone, SaysLawful, SaysShown, SaysUnproved, SaysUnshown, SaysYes}
 use Rattle.arimaa_cli.specs.Headline.SaysAnswered.{bad as answers_bad, empty as answers_empty, refused as answers_refused}
 use Rattle.arimaa_cli.specs.Headline.SaysDone.{lawful as done_lawful, shown as done_shown, read as done_read}
 use Rattle.arimaa_cli.specs.Headline.SaysUnproved.{bad as says_bad, ended as says_ended, empty as says_empty, lost as says_no}

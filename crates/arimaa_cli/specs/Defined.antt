@@ -26,15 +26,15 @@ pub record IsNoStill (words : List (List ℕ)) : Type 0 where
   pub control : (text : List ℕ) → AsksControl words text → ⊥
 
 -- what judge, show and control answer to words over an input of these bytes
-pub data IsStill (words : List (List ℕ)) (given : List ℕ) : Status → List ℕ → Type 0 where
+pub data IsStillDefined (words : List (List ℕ)) (given : List ℕ) : Status → List ℕ → Type 0 where
   -- the words are in no form of these commands
-  misworded : IsNoStill words → IsStill words given Words (line (codes "bad words"))
+  misworded : IsNoStill words → IsStillDefined words given Words (line (codes "bad words"))
   -- judge or show: the input is read
   about : (question : Question) → AsksStill words question
-      → (status : Status) (text : List ℕ) → IsRead question given status text → IsStill words given status text
+      → (status : Status) (text : List ℕ) → IsRead question given status text → IsStillDefined words given status text
   -- control: the input is not read
   control : (asked : List ℕ) → AsksControl words asked
-      → (status : Status) (text : List ℕ) → IsControlAnswer asked status text → IsStill words given status text
+      → (status : Status) (text : List ℕ) → IsControlAnswer asked status text → IsStillDefined words given status text
 
 -- the words are in no command's form
 pub record IsNoCommand (words : List (List ℕ)) : Type 0 where

@@ -1,7 +1,7 @@
 //! Laws that show that the definitions mean what they say, each the contract of a function without a body
 //! of its own.
 ghost use Rattle.arimaa_cli.specs.Agreement.{AnswersAgree};
-ghost use Rattle.arimaa_cli.specs.Defined.{IsDefined, IsStill, IsAnswered};
+ghost use Rattle.arimaa_cli.specs.Defined.{IsDefined, IsStillDefined, IsAnswered};
 
 use arimaa_judge::judgements_agree;
 
@@ -9,7 +9,7 @@ use arimaa_judge::judgements_agree;
 /// `judge`, `show` and `control`, and that of the program.
 pub fn answers_agree()
     ensures prove { AnswersAgree IsDefined }
-    ensures still { AnswersAgree IsStill }
+    ensures still { AnswersAgree IsStillDefined }
     ensures program { AnswersAgree IsAnswered }
 {
     judgements_agree();

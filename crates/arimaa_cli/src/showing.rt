@@ -19,13 +19,7 @@ fn place(square: Square, content: Option<Piece>) -> u8
 {
     match content {
         Some(piece) => piece.letter(),
-        None => {
-            if square.is_trap() {
-                b'x'
-            } else {
-                b'.'
-            }
-        }
+        None => { if square.is_trap() { b'x' } else { b'.' } }
     }
 }
 

@@ -5,7 +5,7 @@ ghost use Rattle.arimaa_outside.specs.declared.status.Status.{Status as Ended};
 ghost use Rattle.arimaa_outside.specs.declared.status.Status.TheVariants as outcome;
 ghost use Rattle.arimaa_cli.specs.Answers.{EndsWith};
 ghost use Rattle.arimaa_cli.specs.ControlCommand.{AsksControl, IsControlAnswer, IsControlDefined};
-ghost use Rattle.arimaa_cli.specs.Defined.{IsStill, IsNoStill};
+ghost use Rattle.arimaa_cli.specs.Defined.{IsStillDefined, IsNoStill};
 ghost use Rattle.arimaa_cli.specs.Headline.{SaysDone, SaysAnswered, Gained};
 ghost use Rattle.arimaa_cli.specs.Words.{AsksStill};
 ghost use Rattle.arimaa_cli.specs.declared.words.Question.{Question as Query};
@@ -52,7 +52,7 @@ pub fn run_still<I: Source, O: Sink>(
     // What the words and the bytes of the input define is written, whole, unless a read or a write
     // failed or memory was wanting. What `control` writes does not depend on the input.
     ensures answer { (given : List ℕ) → I.remaining input.old ≡ Some given → result ≢ outcome.ReadFault → result ≢ outcome.Memory
-        → (ended : Ended) × (text : List ℕ) × IsStill words.now given ended text
+        → (ended : Ended) × (text : List ℕ) × IsStillDefined words.now given ended text
         × EndsWith result (O.contents output.old) (O.contents output.new) ended text }
     ensures control { (asked : List ℕ) → AsksControl words.now asked → result ≢ outcome.Memory
         → (ended : Ended) × (text : List ℕ) × IsControlAnswer asked ended text

@@ -1,4 +1,4 @@
-use Rattle.std.proofs.Common.{◌≡◌, ◌++◌, ◌∷◌, ◌+◌, ◌*◌, map}
+use Rattle.std.proofs.Common.{◌≡◌, ◌++◌, ◌+◌, ◌*◌, map}
 use Rattle.std.specs.List.{range_with_len}
 use Rattle.arimaa_board.specs.Board.{at}
 use Rattle.arimaa_cli.specs.Show.{place_of}

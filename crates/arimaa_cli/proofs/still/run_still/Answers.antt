@@ -1,9 +1,7 @@
 use Rattle.std.proofs.Common.{◌≡◌, None, Some, refl, sym, ◌∙◌}
-use Rattle.std.specs.Prelude.{codes}
-use Rattle.arimaa_judge.specs.Texts.{line}
 use Rattle.arimaa_outside.specs.declared.status.Status.TheVariants as outcome
 use Rattle.arimaa_cli.specs.Answers.{IsRead}
-use Rattle.arimaa_cli.specs.Defined.IsStill.{misworded, about, control}
+use Rattle.arimaa_cli.specs.Defined.IsStillDefined.{about}
 use Rattle.arimaa_cli.specs.Headline.{SaysAnswered, SaysDone}
 use Rattle.arimaa_cli.specs.ControlCommand.{IsControlDefined}
 use Rattle.arimaa_cli.specs.Words.{AsksStill}
