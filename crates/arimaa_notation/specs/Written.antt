@@ -63,9 +63,10 @@ abbrev pub with_item : List ℕ → List ℕ → List ℕ
 with_item [] item = item
 with_item (b ∷ bs) item = (b ∷ bs) ++ 32 ∷ item
 
--- the written form of a turn, and of a setup
+-- the written form of a turn
 abbrev pub text_of_turn : List NotedStep → List ℕ
 text_of_turn ns = joined (items_of_turn ns)
 
+-- the written form of a setup, in order of square
 abbrev pub text_of_setup : Lineup → List ℕ
 text_of_setup s = joined (items_of_entries s.pairs)

@@ -71,6 +71,7 @@ IsPercent text n = IsNumber text n × (n ≤ 100)
 abbrev pub turns_limit : ℕ → GameLimit
 turns_limit n = if n == 0 then limits.None else limits.Turns n
 
+-- the game limit of so many milliseconds, none of which is no limit
 abbrev pub time_limit : ℕ → GameLimit
 time_limit ms = if ms == 0 then limits.None else limits.Time ms
 

@@ -32,10 +32,12 @@ abbrev pub part_or_whole : List ℕ → List ℕ → Option ℕ → ℕ × List 
 part_or_whole text rest None = (0, text)
 part_or_whole text rest (Some n) = (n, rest)
 
+-- the number of a part and what follows it, by the two halves round its unit, or no part at all
 abbrev pub part_at : List ℕ → Option (List ℕ × List ℕ) → ℕ × List ℕ
 part_at text None = (0, text)
 part_at text (Some halves) = part_or_whole text halves.1 (number_of halves.0)
 
+-- the number before this unit, 0 where it does not stand first, and what follows
 unfoldable pub part_of : ℕ → List ℕ → ℕ × List ℕ
 part_of letter text = part_at text (cut_of letter text)
 
@@ -60,9 +62,11 @@ span_of sixtieth units text =
     (option_or (option_map (λ n. n * sixtieth) (clock_of text))
     (if length text == 0 then None else parts_of units text))
 
+-- the milliseconds of a time, whose bare number counts minutes
 abbrev pub time_of : List ℕ → Option ℕ
 time_of text = span_of 1000 units_of_time text
 
+-- the number of a percentage, from 0 to 100
 unfoldable pub percent_of : List ℕ → Option ℕ
 percent_of text = option_and_then (λ n. if nat_le n 100 then Some n else None) (number_of text)
 
@@ -71,6 +75,7 @@ unfoldable pub marked_of : ℕ → List ℕ → Option ℕ
 marked_of letter text =
     option_and_then (λ halves. if length halves.1 == 0 then number_of halves.0 else None) (cut_of letter text)
 
+-- the limit of a game: a number of turns, or a time whose bare number counts hours
 unfoldable pub game_of : List ℕ → Option GameLimit
 game_of text = option_or (option_map turns_limit (marked_of 116 text)) (option_map time_limit (span_of 60000 units_of_game text))
 
