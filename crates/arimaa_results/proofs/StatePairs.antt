@@ -14,7 +14,7 @@ use Rattle.arimaa_model.specs.declared.fault.StepFault.{StepFault}
 use Rattle.arimaa_model.specs.Faults.{unless}
 use Rattle.arimaa_model.specs.Plain.{candidates, steps_of}
 use Rattle.arimaa_model.specs.Results.{step_of}
-use Rattle.arimaa_model.proofs.Lists.{flat_map-flat_map, flat_map-map}
+use Rattle.arimaa_model.proofs.Lists.{flat_map-agree, flat_map-flat_map, flat_map-map}
 use Rattle.arimaa_model.proofs.Reaching.{candidates-is}
 use Rattle.arimaa_step.specs.declared.accepted.AcceptedSteps.{AcceptedSteps}
 use Rattle.arimaa_step.specs.declared.state.StepDone.{StepDone}
@@ -121,14 +121,15 @@ module _ (st : TurnState) where
   all_pairs a are =
       same_numbers (pairs_from st a) (λ n. flat_map (pairs_by st) (steps_of n (at st.board n))) 64 0 (λ n _ small. from n small)
       ∙ sym (ap (flat_map (pairs_by st)) (candidates-is st.board) ∙ flat_map-flat_map (pairs_by st) (λ n. steps_of n (at st.board n)) (range_with_len 0 64)) where
-    content : (n : ℕ) (o : Option Piece) → flat_map (λ d. pairs_of_content st n d o) directions ≡ flat_map (pairs_by st) (steps_of n o)
-    content n None = refl
-    content n (Some p) = refl
-    from : (n : ℕ) → n < 64 → pairs_from st a n ≡ flat_map (pairs_by st) (steps_of n (at st.board n))
-    from n small =
-        by_test-all (has_step a n) (λ d. pairs_of_content st n d (at st.board n))
-        (λ d out. refused_content n d (at st.board n) (sym (in_mask (accepts st d) (mask_towards a d) n (are d) small) ∙ out))
-        ∙ content n (at st.board n)
+        content : (n : ℕ) (o : Option Piece) → flat_map (λ d. pairs_of_content st n d o) directions ≡ flat_map (pairs_by st) (steps_of n o)
+        content n None = refl
+        content n (Some p) = refl
+
+        from : (n : ℕ) → n < 64 → pairs_from st a n ≡ flat_map (pairs_by st) (steps_of n (at st.board n))
+        from n small =
+            by_test-all (has_step a n) (λ d. pairs_of_content st n d (at st.board n))
+            (λ d out. refused_content n d (at st.board n) (sym (in_mask (accepts st d) (mask_towards a d) n (are d) small) ∙ out))
+            ∙ content n (at st.board n)
 
   -- all of them are accepted
   pub all_accepted : (a : AcceptedSteps) → AreAccepted st a → AreAllAccepted st a
@@ -151,12 +152,14 @@ module _ (st : TurnState) where
         (by_test-first (has_step old m) (has_step new m) (λ e. pairs_of_content st m e (at st.board m)) d taken.there taken.none_earlier (λ e. taken.left m e taken.on_board ∙ ap (λ v. has_step old m e && not (v && same_dir e d)) (eq-eqb m m refl))
         ∙ ap (λ l. l ++ pairs_from st new m) its_pair)
         (λ n above small. by_test-agree (has_step old n) (has_step new n) (content n) (λ e. let apart : n ≢ m = omega arith in sym (taken.left n e small ∙ (ap (λ v. has_step old n e && not (v && same_dir e d)) (ne_eqb n m apart) ∙ and_true (has_step old n e))))) where
-      content : ℕ → Dir → List (Step × TurnState)
-      content n e = pairs_of_content st n e (at st.board n)
-      none_new : (n : ℕ) (e : Dir) → n < m → has_step new n e ≡ false
-      none_new n e lower = taken.left n e (omega (arith, taken.on_board)) ∙ ap (λ v. v && not (n == m && same_dir e d)) (taken.none_lower n e lower)
-      its_pair : pairs_of_content st m d (at st.board m) ≡ (step_of m d p, next_state st (step_of m d p)) ∷ []
-      its_pair = ap (pairs_of_content st m d) here ∙ accepted (step_of m d p) (sym (ap (accepts_content st d m) here) ∙ are d m taken.on_board taken.there)
+          content : ℕ → Dir → List (Step × TurnState)
+          content n e = pairs_of_content st n e (at st.board n)
+
+          none_new : (n : ℕ) (e : Dir) → n < m → has_step new n e ≡ false
+          none_new n e lower = taken.left n e (omega (arith, taken.on_board)) ∙ ap (λ v. v && not (n == m && same_dir e d)) (taken.none_lower n e lower)
+
+          its_pair : pairs_of_content st m d (at st.board m) ≡ (step_of m d p, next_state st (step_of m d p)) ∷ []
+          its_pair = ap (pairs_of_content st m d) here ∙ accepted (step_of m d p) (sym (ap (accepts_content st d m) here) ∙ are d m taken.on_board taken.there)
 
     -- something stands on its square, and the step is accepted
     pub holds_piece : at st.board m ≡ None → ⊥
@@ -171,6 +174,15 @@ module _ (st : TurnState) where
   pairs_none a none = same_numbers (pairs_from st a) nothing 64 0 (λ n _ small. by_test-none (has_step a n) (λ d. pairs_of_content st n d (at st.board n)) (λ d. none n d small)) ∙ empty 64 0 where
     nothing : ℕ → List (Step × TurnState)
     nothing n = []
+
     empty : (k b : ℕ) → flat_map nothing (range_with_len b k) ≡ []
     empty zero b = refl
     empty (suc k) b = empty k (b + 1)
+
+-- what the pairs give by their states is what the next states give
+pub pairs_give : {Y : Type 0} (F : TurnState → List Y) (st : TurnState) → flat_map (λ (pr : Step × TurnState). F pr.1) (next_pairs st) ≡ flat_map F (next_states st)
+unfolding next_pairs next_states
+pairs_give F st =
+    flat_map-flat_map (λ (pr : Step × TurnState). F pr.1) (pairs_by st) (candidates st.board)
+    ∙ (flat_map-agree _ (λ s. flat_map F (states_by st s)) (candidates st.board) (λ s. flat_map-map (λ (pr : Step × TurnState). F pr.1) (λ next. (s, next)) (states_by st s))
+    ∙ sym (flat_map-flat_map F (states_by st) (candidates st.board)))
