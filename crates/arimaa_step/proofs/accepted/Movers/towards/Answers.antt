@@ -20,7 +20,7 @@ returns c st side few movers =
     let fits : c.args.self.now.here < 2 ^ 64 = omega arith in
     let free = c.entering.ensures (λ m. not (here m)) (not_mask here c.args.self.now.here fits movers.here) in
     let fitting = and_mask here (λ n. passes (λ m. not (here m)) (next n)) _ _ movers.here free in
-    let kept : IsMaskOf back c.kept_back.result = 
+    let kept : IsMaskOf back c.kept_back.result =
     subst (λ x. IsMaskOf (λ n. is_back x dir && holds (piece_of st.start.side Rabbit) (at st.board n)) c.kept_back.result) (sym side) (c.kept_back.ensures (λ n. holds (piece_of st.start.side Rabbit) (at st.board n)) movers.rabbits) in
     let behind = not_mask back c.kept_back.result c.kept_back.type_inv kept in
     let going = and_mask (may_go st) (λ n. not (back n)) _ _ movers.going behind in
