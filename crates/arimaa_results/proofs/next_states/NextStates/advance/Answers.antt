@@ -26,6 +26,6 @@ returns c =
     let here = rw c.board.ensures at c.in-Some-at.ensures.value in
     let pairs = pairs_taken st c.self.inside.steps _ _ c.take_first.new.steps c.in-Some.ensures c.self.invariant c.in-Some-at.piece (sym here) in
     record {
-      next = sym c.self.view_is ∙ rw c.make.ensures pairs;
+      next = sym c.self.view_is ∙ rw c.make.ensures.state pairs;
       end = tt;
     }
