@@ -1,0 +1,138 @@
+//! The words that ask for a command.
+ghost use Rattle.std.specs.Prelude.{◌≡◌, ◌≤◌, ◌↔◌, ℕ, List, IfNone, IfSome, IsTrue, Some};
+ghost use Rattle.std.specs.Fmt.{decimal};
+ghost use Rattle.arimaa_board.specs.declared.piece.Color.{Color as Side};
+ghost use Rattle.arimaa_judge.specs.Texts.{side_word};
+ghost use Rattle.arimaa_cli.specs.declared.commands.Asked.{Asked as Inquiry};
+ghost use Rattle.arimaa_cli.specs.declared.commands.Command.{Command as Order};
+ghost use Rattle.arimaa_cli.specs.declared.commands.Command.TheVariants as order;
+ghost use Rattle.arimaa_cli.specs.declared.commands.Question.TheVariants as question;
+ghost use Rattle.arimaa_cli.specs.Commands.{AreWords, IsNamed, IsTextWord};
+
+use crate::commands::{Asked, Command, MOST_TURNS, Question};
+use arimaa_board::Color;
+use arimaa_outside::CommandWords;
+use arimaa_record::read_number;
+use std::marker::Model;
+
+/// A word that stands for a text. It isn't empty, and begins with no dash.
+#[derive(Drop)]
+pub struct TextWord<'a> {
+    word: &'a str,
+}
+
+impl<'a> Model for TextWord<'a> {
+    ghost use Rattle.std.specs.Prelude.{List, ℕ};
+
+    ghost Value = { List ℕ };
+
+    ghost view = { λ t. t.word.now };
+}
+
+impl TextWord<'_> {
+    /// The bytes of the word.
+    pub fn as_bytes(&self) -> &[u8]
+        ensures { result.now ≡ self.now }
+    {
+        self.word.as_bytes()
+    }
+}
+
+// Whether there are so many words, the first of which is a command's name.
+fn is_named(words: &CommandWords, name: &str, count: usize) -> bool
+    ensures { IsTrue result ↔ IsNamed words.now name.now count }
+{
+    match words.get(0) {
+        Some(first) => words.len() == count && first == name,
+        None => false,
+    }
+}
+
+// The side that a word names.
+fn read_side(word: &str) -> Option<Color>
+    ensures { (side : Side) → (result ≡ Some side) ↔ (word.now ≡ side_word side) }
+{
+    match word.as_bytes() {
+        b"gold" => Some(Color::Gold),
+        b"silver" => Some(Color::Silver),
+        _ => None,
+    }
+}
+
+// The number of turns that a word gives in decimal digits.
+fn read_depth(word: &str) -> Option<u8>
+    ensures { (n : ℕ) → (result ≡ Some n) ↔ ((n ≤ MOST_TURNS) × (word.now ≡ decimal n)) }
+{
+    match read_number(word.as_bytes()) {
+        None => None,
+        Some(number) => {
+            if number <= MOST_TURNS as u64 {
+                Some(number as u8)
+            } else {
+                None
+            }
+        }
+    }
+}
+
+// Whether a word may stand for a text.
+fn is_text(word: &[u8]) -> bool
+    ensures { IsTrue result ↔ IsTextWord word.now }
+{
+    match word {
+        [] => false,
+        [first, ..] => *first != b'-',
+    }
+}
+
+// What the words ask of `prove`: the name, a side and a number of turns.
+fn read_prove(words: &CommandWords) -> Option<Asked>
+    ensures form { IfSome result (λ asked. AreWords words.now (order.About (question.Prove asked))) }
+    ensures none { IfNone result ((asked : Inquiry)
+        → ¬ AreWords words.now (order.About (question.Prove asked))) }
+{
+    if !is_named(words, "prove", 3) {
+        return None;
+    }
+    let attacker = read_side(words.get(1)?)?;
+    let depth = read_depth(words.get(2)?)?;
+    Some(Asked { attacker, depth })
+}
+
+// The text that the words ask `control` about.
+#[tactic(auto, using(crate::proofs::CommandForms::words))]
+fn read_control(words: &CommandWords) -> Option<TextWord<'_>>
+    ensures form { IfSome result (λ text. AreWords words.now (order.Control text)) }
+    ensures none { IfNone result ((text : List ℕ) → ¬ AreWords words.now (order.Control text)) }
+{
+    if !is_named(words, "control", 2) {
+        return None;
+    }
+    let word = words.get(1)?;
+    if is_text(word.as_bytes()) {
+        Some(TextWord { word })
+    } else {
+        None
+    }
+}
+
+/// The command that the words are in the form of. None exactly where they are in no command's form.
+#[tactic(auto, using(crate::proofs::CommandForms::words))]
+pub fn read_command(words: &CommandWords) -> Option<Command<'_>>
+    ensures form { IfSome result (AreWords words.now) }
+    ensures none { IfNone result ((command : Order) → ¬ AreWords words.now command) }
+{
+    if is_named(words, "judge", 1) {
+        return Some(Command::About(Question::Judge));
+    }
+    if is_named(words, "show", 1) {
+        return Some(Command::About(Question::Show));
+    }
+    if let Some(asked) = read_prove(words) {
+        return Some(Command::About(Question::Prove(asked)));
+    }
+    if let Some(text) = read_control(words) {
+        return Some(Command::Control(text));
+    }
+    None
+}
