@@ -1,46 +1,50 @@
-//! The words of the commands.
-ghost use Rattle.std.specs.Prelude.{◌≡◌, ◌≤◌, ◌↔◌, ◌∷◌, [], ℕ, IsTrue, Some, codes, slice_get};
+//! The words that ask for a command.
+ghost use Rattle.std.specs.Prelude.{◌≡◌, ◌≤◌, ◌↔◌, ℕ, List, IfNone, IfSome, IsTrue, Some};
 ghost use Rattle.std.specs.Fmt.{decimal};
 ghost use Rattle.arimaa_board.specs.declared.piece.Color.{Color as Side};
 ghost use Rattle.arimaa_judge.specs.Texts.{side_word};
-ghost use Rattle.arimaa_cli.specs.Words.{AsksProve, AsksStill};
-ghost use Rattle.arimaa_cli.specs.declared.words.Asked.{Asked as Inquiry};
-ghost use Rattle.arimaa_cli.specs.declared.words.Question.{Question as Query};
+ghost use Rattle.arimaa_cli.specs.declared.commands.Asked.{Asked as Inquiry};
+ghost use Rattle.arimaa_cli.specs.declared.commands.Command.{Command as Order};
+ghost use Rattle.arimaa_cli.specs.declared.commands.Command.TheVariants as order;
+ghost use Rattle.arimaa_cli.specs.declared.commands.Question.TheVariants as question;
+ghost use Rattle.arimaa_cli.specs.Commands.{AreWords, IsNamed, IsTextWord};
 
+use crate::commands::{Asked, Command, MOST_TURNS, Question};
 use arimaa_board::Color;
 use arimaa_outside::CommandWords;
 use arimaa_record::read_number;
+use std::marker::Model;
 
-/// The most turns that a question may ask about.
-pub const MOST_TURNS: u8 = 20;
-
-/// What `prove` is asked: whether a side wins in at most so many turns.
-#[derive(Clone, Copy, Debug)]
-pub struct Asked {
-    /// The side that is to win.
-    pub attacker: Color,
-    /// The most turns that may be made, of both sides together, from 0 to `MOST_TURNS`.
-    pub depth: u8,
+/// A word that stands for a text. It isn't empty, and begins with no dash.
+#[derive(Drop)]
+pub struct TextWord<'a> {
+    word: &'a str,
 }
 
-/// What is asked about the record that the input is.
-#[derive(Clone, Copy, Debug)]
-pub enum Question {
-    /// Whether it is lawful, and how its game stands.
-    Judge,
-    /// The position that it ends with.
-    Show,
-    /// Whether a side wins from that position.
-    Prove(Asked),
+impl<'a> Model for TextWord<'a> {
+    ghost use Rattle.std.specs.Prelude.{List, ℕ};
+
+    ghost Value = { List ℕ };
+
+    ghost view = { λ t. t.word.now };
 }
 
-// Whether a word is the command's name.
-fn is_prove(word: &str) -> bool
-    ensures { IsTrue result ↔ (word.now ≡ codes "prove") }
+impl TextWord<'_> {
+    /// The bytes of the word.
+    pub fn as_bytes(&self) -> &[u8]
+        ensures { result.now ≡ self.now }
+    {
+        self.word.as_bytes()
+    }
+}
+
+// Whether there are so many words, the first of which is a command's name.
+fn is_named(words: &CommandWords, name: &str, count: usize) -> bool
+    ensures { IsTrue result ↔ IsNamed words.now name.now count }
 {
-    match word.as_bytes() {
-        b"prove" => true,
-        _ => false,
+    match words.get(0) {
+        Some(first) => words.len() == count && first == name,
+        None => false,
     }
 }
 
@@ -55,7 +59,7 @@ fn read_side(word: &str) -> Option<Color>
     }
 }
 
-// The number of turns that a word gives.
+// The number of turns that a word gives in decimal digits.
 fn read_depth(word: &str) -> Option<u8>
     ensures { (n : ℕ) → (result ≡ Some n) ↔ ((n ≤ MOST_TURNS) × (word.now ≡ decimal n)) }
 {
@@ -71,22 +75,23 @@ fn read_depth(word: &str) -> Option<u8>
     }
 }
 
-// Whether the first word is `prove`.
-pub(crate) fn begins_with_prove(words: &CommandWords) -> bool
-    ensures { IsTrue result ↔ (slice_get words.now 0 ≡ Some (codes "prove")) }
+// Whether a word may stand for a text.
+fn is_text(word: &[u8]) -> bool
+    ensures { IsTrue result ↔ IsTextWord word.now }
 {
-    match words.get(0) {
-        None => false,
-        Some(word) => is_prove(word),
+    match word {
+        [] => false,
+        [first, ..] => *first != b'-',
     }
 }
 
-/// What `prove` is asked by the words `prove`, a side, `gold` or `silver`, and a number of turns from
-/// 0 to 20 in decimal digits. None exactly where the words are not in this form.
-pub fn read_prove(words: &CommandWords) -> Option<Asked>
-    ensures { (asked : Inquiry) → (result ≡ Some asked) ↔ AsksProve words.now asked }
+// What the words ask of `prove`: the name, a side and a number of turns.
+fn read_prove(words: &CommandWords) -> Option<Asked>
+    ensures form { IfSome result (λ asked. AreWords words.now (order.About (question.Prove asked))) }
+    ensures none { IfNone result ((asked : Inquiry)
+        → ¬ AreWords words.now (order.About (question.Prove asked))) }
 {
-    if words.len() != 3 || !is_prove(words.get(0)?) {
+    if !is_named(words, "prove", 3) {
         return None;
     }
     let attacker = read_side(words.get(1)?)?;
@@ -94,24 +99,40 @@ pub fn read_prove(words: &CommandWords) -> Option<Asked>
     Some(Asked { attacker, depth })
 }
 
-// The question of a command that is one word.
-fn question_of(word: &str) -> Option<Question>
-    ensures { (question : Query) → (result ≡ Some question) ↔ AsksStill (word.now ∷ []) question }
+// The text that the words ask `control` about.
+#[tactic(auto, using(crate::proofs::CommandForms::words))]
+fn read_control(words: &CommandWords) -> Option<TextWord<'_>>
+    ensures form { IfSome result (λ text. AreWords words.now (order.Control text)) }
+    ensures none { IfNone result ((text : List ℕ) → ¬ AreWords words.now (order.Control text)) }
 {
-    match word.as_bytes() {
-        b"judge" => Some(Question::Judge),
-        b"show" => Some(Question::Show),
-        _ => None,
+    if !is_named(words, "control", 2) {
+        return None;
+    }
+    let word = words.get(1)?;
+    if is_text(word.as_bytes()) {
+        Some(TextWord { word })
+    } else {
+        None
     }
 }
 
-/// The question about a record that is asked by the one word `judge` or `show`. None exactly where the
-/// words are not one of these.
-pub fn read_still(words: &CommandWords) -> Option<Question>
-    ensures { (question : Query) → (result ≡ Some question) ↔ AsksStill words.now question }
+/// The command that the words are in the form of. None exactly where they are in no command's form.
+#[tactic(auto, using(crate::proofs::CommandForms::words))]
+pub fn read_command(words: &CommandWords) -> Option<Command<'_>>
+    ensures form { IfSome result (AreWords words.now) }
+    ensures none { IfNone result ((command : Order) → ¬ AreWords words.now command) }
 {
-    if words.len() != 1 {
-        return None;
+    if is_named(words, "judge", 1) {
+        return Some(Command::About(Question::Judge));
     }
-    question_of(words.get(0)?)
+    if is_named(words, "show", 1) {
+        return Some(Command::About(Question::Show));
+    }
+    if let Some(asked) = read_prove(words) {
+        return Some(Command::About(Question::Prove(asked)));
+    }
+    if let Some(text) = read_control(words) {
+        return Some(Command::Control(text));
+    }
+    None
 }
