@@ -11,9 +11,9 @@ use Rattle.arimaa_board.specs.declared.piece.Color.{Color}
 use Rattle.arimaa_board.specs.declared.position.Position.{Position}
 use Rattle.arimaa_line.specs.declared.line.Line.{Line}
 use Rattle.arimaa_line.specs.Lines.{IsTrueLine, empty_line, stamp_of}
-use Rattle.arimaa_table.specs.declared.views.PlaceView.{PlaceView}
-use Rattle.arimaa_table.specs.declared.views.PassView.{PassView}
-use Rattle.arimaa_table.specs.declared.views.Setting.{Setting}
+use Rattle.arimaa_table.specs.declared.view.PlaceView.{PlaceView}
+use Rattle.arimaa_table.specs.declared.view.PassView.{PassView}
+use Rattle.arimaa_table.specs.declared.view.Setting.{Setting}
 use Rattle.arimaa_table.specs.Places.{at, after_load, after_miss, after_take, after_give, changed, in_hand, IsLive, IsFor, Later, NoNewer, WasRuled, Rule, Ruled, tried, gave}
 use Rattle.arimaa_table.specs.Between.{taken, IsOut, IsBusy, MayGive}
 use Rattle.arimaa_table.proofs.AllPlaces.{at_changed, at_other, live_changed}
@@ -56,16 +56,17 @@ module _ (v : PassView) (i : ℕ) (inside : i < length v.places) (n r : ℕ) (m 
       last = refl;
       free = refl;
     };
+    tries = omega arith;
   }
 
   -- the taking succeeded, and the line was moved out of its slot
-  pub took_out : (l x e : Line) (m'' : Me Line PassView) → r ≡ n → n + 2 < 2 ^ 64 → IsFor m.0 i l → m' ≡ (changed m.0 i (after_take (at i m.0) r l), (i, l) ∷ m.1) → m'.1 ≡ (i, x) ∷ rest m'.1
+  pub took_out : (l x e : Line) (m'' : Me Line PassView) → r ≡ n → n + 2 < 2 ^ 64 → IsFor m.0 i r l → m' ≡ (changed m.0 i (after_take (at i m.0) r l), (i, l) ∷ m.1) → m'.1 ≡ (i, x) ∷ rest m'.1
       → e ≡ empty_line → m'' ≡ (m'.0, (i, e) ∷ rest m'.1) → IsOut v i n x m''
   took_out l x e m'' hit small for is has blank now = let same : x ≡ l = ap in_hand (sym has ∙ ap (λ (y : Me Line PassView). y.1) is) in let empty : m.1 ≡ [] = ap (λ (y : Me Line PassView). y.1) first in
       let at_last : m' ≡ (changed v i (after_take (after_load p n) r l), (i, l) ∷ []) = then_changed v i (λ y. after_take y r l) (after_load p n) m m' [] ((i, l) ∷ []) inside first (is ∙ ap (λ (xs : List (ℕ × Line)). (changed m.0 i (after_take (at i m.0) r l), (i, l) ∷ xs)) empty) in
       record {
         me = now ∙ (ap (λ (y : Me Line PassView). (y.0, (i, e) ∷ rest y.1)) at_last ∙ λ j. (changed v i (after_take (after_load p n) (hit j) (sym same j)), (i, blank j) ∷ []));
-        line = let f : IsFor v i l = (subst (λ (y : Me Line PassView). IsTrueLine y.0.attacker y.0.barred l) first for.0, subst (λ (y : PlaceView). NoNewer y.kept l) at_first for.1) in subst (IsFor v i) (sym same) f;
+        line = let f : IsFor v i n l = (subst (λ (y : Me Line PassView). IsTrueLine y.0.attacker y.0.barred l) first for.0, subst (λ (y : PlaceView). NoNewer y.kept l) at_first for.1, λ none. for.2 (hit ∙ none)) in subst (IsFor v i n) (sym same) f;
         even = even;
         below = small;
         later = told;

@@ -11,10 +11,10 @@ use Rattle.arimaa_board.specs.declared.piece.Color.{Color}
 use Rattle.arimaa_board.specs.declared.position.Position.{Position}
 use Rattle.arimaa_line.specs.declared.line.Line.{Line}
 use Rattle.arimaa_line.specs.Lines.{IsTrueLine, stamp_of}
-use Rattle.arimaa_table.specs.declared.views.Kind.TheVariants.{Load, Missed}
-use Rattle.arimaa_table.specs.declared.views.PlaceView.{PlaceView}
-use Rattle.arimaa_table.specs.declared.views.PassView.{PassView}
-use Rattle.arimaa_table.specs.declared.views.Setting.{Setting}
+use Rattle.arimaa_table.specs.declared.view.Kind.TheVariants.{Load, Missed}
+use Rattle.arimaa_table.specs.declared.view.PlaceView.{PlaceView}
+use Rattle.arimaa_table.specs.declared.view.PassView.{PassView}
+use Rattle.arimaa_table.specs.declared.view.Setting.{Setting}
 use Rattle.arimaa_table.specs.Places.{after_load, after_miss, after_take, after_give, Place, at, Ruled, IsLive, changed, WasRuled, loaded, tried, in_hand, gave}
 use Rattle.arimaa_table.proofs.OnePlace.{there, sees, takes, gives}
 use Rattle.arimaa_table.proofs.AllPlaces.{turned, live_changed, was_ruled, seat_there}
@@ -44,7 +44,7 @@ module _ (k : Setting) where
             (turned k s r i (c + 1) id (set s.homes i none) me.0 q at_id live inside (length-set s.homes i none) (λ j n. set_else s.homes i j none n)
             (subst (λ (z : Option (Option Line)). Place k.attacker k.barred.items (c + 1) z (set ps id q)) (sym (set_here s.homes i none (omega arith)))
             (takes k.attacker k.barred.items c h ps id p here at_p still (there ps id p q at_p))))),
-        (λ _. ((λ _. (l, (subst (λ (z : Color × List Position). IsTrueLine z.0 z.1 l) (λ j. (sym live.1 j, sym live.2 j)) here.is_true, (here.knows id p at_p).kept), refl)), (λ miss. absurd (miss hit)))),
+        (λ _. ((λ _. (l, (subst (λ (z : Color × List Position). IsTrueLine z.0 z.1 l) (λ j. (sym live.1 j, sym live.2 j)) here.is_true, (here.knows id p at_p).kept, λ none. here.first none), refl)), (λ miss. absurd (miss hit)))),
       ))
       (λ miss. let t = sees k.attacker k.barred.items Missed c h ps id p here at_p in let w : PassView = changed me.0 i (after_miss p c) in let wide' = r.counts in let after = turned k s r i c id s.homes me.0 (after_miss p c) at_id live inside refl (λ _ _. refl) t.0 in (
         changed me.0 i (after_miss p c),

@@ -9,8 +9,8 @@ use Rattle.arimaa_board.specs.declared.position.Position.{Position}
 use Rattle.arimaa_line.specs.declared.line.Line.{Line}
 use Rattle.arimaa_line.specs.Lines.{IsTrueLine, stamp_of}
 use Rattle.arimaa_line.proofs.Truth.{stampless}
-use Rattle.arimaa_table.specs.declared.views.Kind.{Kind}
-use Rattle.arimaa_table.specs.declared.views.PlaceView.{PlaceView}
+use Rattle.arimaa_table.specs.declared.view.Kind.{Kind}
+use Rattle.arimaa_table.specs.declared.view.PlaceView.{PlaceView}
 use Rattle.arimaa_table.specs.Places.{fresh, after_take, after_give, NoNewer, Knows, takings_of, Place, Later, newer, merged}
 
 pub takings-set : (ps : List PlaceView) (j : ℕ) (p q : PlaceView) → get_elem? ps j ≡ some p → takings_of (set ps j q) + p.takings ≡ takings_of ps + q.takings
@@ -56,6 +56,7 @@ module _ (attacker : Color) (barred : List Position) where
         (λ (t : (j ≢ id) × (get_elem? ps j ≡ some x)). k.holds j x t.1 held) (at_set ps id j q x e);
     knows = λ j x e. ⊎_elim (λ (t : (j ≡ id) × (q ≡ x)). subst (Knows k.line c) t.1 knows) (λ (t : (j ≢ id) × (get_elem? ps j ≡ some x)). k.knows j x t.1) (at_set ps id j q x e);
     takings = let t = takings-set ps id p q at in let old = k.takings in omega (arith, takings);
+    first = k.first;
   }
     where
       still : Dec (k.holder ≡ id) → (y : PlaceView) × (get_elem? ps k.holder ≡ some y) × (y.holds ≡ true) → (y : PlaceView) × (get_elem? (set ps id q) k.holder ≡ some y) × (y.holds ≡ true)
@@ -95,6 +96,7 @@ module _ (attacker : Color) (barred : List Position) where
         (λ (t : (j ≢ id) × (get_elem? ps j ≡ some x)). let o = k.knows j x t.1 in let b : x.seen ≤ c = o.seen in record { kept = o.kept; seen = omega arith; held = o.held; free = o.free; none_taken = o.none_taken })
         (at_set ps id j q x e);
     takings = let t = takings-set ps id p q at in let old = k.takings in omega arith;
+    first = λ none. absurd (omega arith);
   }
 
   -- a giving, of the line that was taken or of a newer one
@@ -122,6 +124,7 @@ module _ (attacker : Color) (barred : List Position) where
         })
         (at_set ps id j q y e);
     takings = let t = takings-set ps id p q at in let old = k.takings in omega arith;
+    first = λ none. absurd (omega arith);
   }
 
   -- a new pass, which holds nothing
@@ -135,6 +138,7 @@ module _ (attacker : Color) (barred : List Position) where
     holds = λ j x e held. ⊎_elim (λ (t : get_elem? ps j ≡ some x). k.holds j x t held) (λ (t : q ≡ x). absurd (true_not_false x.holds held (ap (λ (y : PlaceView). y.holds) (sym t) ∙ free))) (at_snoc ps q x j e);
     knows = λ j x e. ⊎_elim (λ (t : get_elem? ps j ≡ some x). k.knows j x t) (λ (t : q ≡ x). subst (Knows k.line c) t knows) (at_snoc ps q x j e);
     takings = let t = takings-snoc ps q in let old = k.takings in omega (arith, none_taken);
+    first = k.first;
   }
 
   newer_knows : (line a b : Line) → NoNewer a line → NoNewer b line → NoNewer (newer a b) line
@@ -172,6 +176,7 @@ module _ (attacker : Color) (barred : List Position) where
             })
             (λ (u : (j ≢ id) × (get_elem? ps j ≡ some x)). k.knows j x u.1) (at_set ps id j m x t.1)) (at_set ps' other j fresh x e);
         takings = let t = takings-set ps id p m at in let u = takings-set ps' other q fresh at' in let old = k.takings in omega arith;
+        first = k.first;
       }
     where
       below : (a b x y : ℕ) → (a ≡ 0) ⊎ (a < b) → (x ≡ 0) ⊎ (x < y) → (max a x ≡ 0) ⊎ (max a x < max b y)

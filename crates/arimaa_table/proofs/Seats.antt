@@ -10,9 +10,9 @@ use Rattle.atomic_table.proofs.Lists.{set_again, at_map, at_snoc}
 use Rattle.arimaa_line.specs.declared.line.Line.{Line}
 use Rattle.arimaa_line.proofs.Truth.{empty_is_true}
 use Rattle.arimaa_line.specs.Lines.{empty_line}
-use Rattle.arimaa_table.specs.declared.views.PlaceView.{PlaceView}
-use Rattle.arimaa_table.specs.declared.views.PassView.{PassView}
-use Rattle.arimaa_table.specs.declared.views.Setting.{Setting}
+use Rattle.arimaa_table.specs.declared.view.PlaceView.{PlaceView}
+use Rattle.arimaa_table.specs.declared.view.PassView.{PassView}
+use Rattle.arimaa_table.specs.declared.view.Setting.{Setting}
 use Rattle.arimaa_table.specs.Places.{fresh, Knows, Holds, Place, at, told, Passes, Ruled, IsLive, HoldsNone, first_view, whole, untaken, without_takings, merged, merged_all, joined, spent_view}
 use Rattle.arimaa_table.proofs.OnePlace.{arrives, joins, knows_nothing}
 use Rattle.arimaa_table.proofs.AllPlaces.{moved_place, live_passes, passes_set, seen_at}
@@ -87,6 +87,7 @@ module _ (k : Setting) where
     holds = one_only;
     knows = λ j p e. knows_first j p e;
     takings = refl;
+    first = λ _. refl;
   }
     where
       only_fresh : (j : ℕ) (p : PlaceView) → get_elem? (fresh ∷ []) j ≡ some p → fresh ≡ p

@@ -3,12 +3,13 @@ use Rattle.std.specs.Prelude.{◌≡◌, ℕ, ◌+◌, ◌-◌, ◌<◌, ◌≤�
 use mathlib.Core.Option.{some}
 use lib.ListN.{get_elem?}
 use Rattle.atomic_table.specs.Table.{State}
-use Rattle.arimaa_line.specs.declared.known.Known.{Known}
+use Rattle.arimaa_line.specs.declared.bounds.Bounds.{Bounds}
 use Rattle.arimaa_line.specs.declared.line.Line.{Line}
-use Rattle.arimaa_line.specs.Lines.{IsTrueLine, IsTrueKnown, encoded, stamp_of}
-use Rattle.arimaa_table.specs.declared.views.PlaceView.{PlaceView}
-use Rattle.arimaa_table.specs.declared.views.PassView.{PassView}
-use Rattle.arimaa_table.specs.declared.views.Setting.{Setting}
+use Rattle.arimaa_line.specs.Bounds.{AreTrueBounds}
+use Rattle.arimaa_line.specs.Lines.{IsTrueLine, IsLineOf, LosesNoBound, empty_line, encoded, stamp_of}
+use Rattle.arimaa_table.specs.declared.view.PlaceView.{PlaceView}
+use Rattle.arimaa_table.specs.declared.view.PassView.{PassView}
+use Rattle.arimaa_table.specs.declared.view.Setting.{Setting}
 use Rattle.arimaa_table.specs.declared.table.Table.{Table}
 use Rattle.arimaa_table.specs.declared.table.TablePass.{TablePass}
 use Rattle.arimaa_table.specs.declared.answers.Looked.{Looked}
@@ -43,16 +44,28 @@ IsPassOf t p = (p.seat.table_id ≡ t.words.shared.table_id) × IsLive (setting_
 abbrev pub IsTrueIn : Table → Line → Type 0
 IsTrueIn t l = IsTrueLine (setting_of t).attacker (setting_of t).barred.items l
 
--- in this call the pass took the true line l, which is no older than the one that it kept, and it left the line x, which it keeps from then on
+-- in this call the pass took the line l of a place, and left the line x there
 pub record TookLine (t : Table) (old new : PlaceView) (l x : Line) : Type 0 where
+  -- the line found is empty or true in the table's context
   pub is_true : IsTrueIn t l
+  -- it is no older than the one that the pass kept
   pub no_older : NoNewer old.kept l
+  -- it is the one that the pass took
   pub took : new.took ≡ l
+  -- the pass keeps the line that it left
   pub kept : new.kept ≡ x
+  -- the pass took the place once
   pub once : new.takings ≡ old.takings + 1
+  -- it gave the place back
   pub last : new.last < new.seen
+  -- it took the place after all that it had seen
   pub after : old.seen < new.last
+  -- it made a step
   pub steps : old.steps < new.steps
+  -- the first line that any pass takes at a place is the empty one
+  pub first : new.last ≡ 1 → l ≡ empty_line
+  -- where the two lines name the same position, no bound is lost or loosened
+  pub bounds : (k : Bounds) → IsLineOf x k → LosesNoBound l k
 
 -- what the pass knows has changed at the place i alone
 abbrev pub OnlyHere : TablePass → TablePass → ℕ → Type 0
@@ -63,29 +76,33 @@ abbrev pub LookedAt : Table → PlaceView → PlaceView → Looked → Type 0
 LookedAt t old new (Found l) = TookLine t old new l l
 LookedAt t old new (looked.Busy c) = WasBusy old new c
 
--- the verdict is right in the table's context
-abbrev pub IsTrueOf : Table → Known → Type 0
-IsTrueOf t k = IsTrueKnown (setting_of t).attacker (setting_of t).barred.items k
+-- the bounds are right in the table's context
+abbrev pub IsTrueOf : Table → Bounds → Type 0
+IsTrueOf t k = AreTrueBounds (setting_of t).attacker (setting_of t).barred.items k
 
 -- what a put answers
-abbrev pub PutAt : Table → PlaceView → PlaceView → Line → Known → Put → Type 0
+abbrev pub PutAt : Table → PlaceView → PlaceView → Line → Bounds → Put → Type 0
 PutAt t old new seen known (Stored s) = (s ≡ stamp_of seen + 1) × (s < 2 ^ 64) × TookLine t old new seen (encoded known s)
 PutAt t old new seen known (Lost l) = (stamp_of seen < stamp_of l) × (stamp_of seen + 1 < 2 ^ 64) × TookLine t old new l l
 PutAt t old new seen known (Busy c) = (stamp_of seen + 1 < 2 ^ 64) × WasBusy old new c
 PutAt t old new seen known Worn = (stamp_of seen ≡ 2 ^ 64 - 1) × (new ≡ old)
 
--- At one moment of the call the rule held of the counts, the lines at home and the views of all passes, and this pass knew what it knows now
+-- at one moment of the call the rule held of the counts, the lines at home and the views of all passes, and this pass knew what it knows now
 abbrev pub IsRuled : Table → TablePass → Type 0
 IsRuled t p = (s : State Line PassView) × (j : ℕ) × Ruled (setting_of t) s × (get_elem? s.views j ≡ some (view p))
 
--- At each place the pass keeps a line that is no older than before
+-- at each place the pass keeps a line that is no older than before
 abbrev pub KeepsNoOlder : TablePass → TablePass → Type 0
 KeepsNoOlder old new = (i : ℕ) → NoNewer (place_view old i).kept (place_view new i).kept
 
--- How many steps the pass has made at each place
+-- how many steps the pass has made at each place
 abbrev pub steps_of : TablePass → ℕ → ℕ
 steps_of p i = (place_view p i).steps
 
--- At each place the pass made at least as many steps
+-- the pass made three steps more at the place at most: a load, a taking, and the giving back after a taking that succeeded. As it holds no place before and after, it gave back as often as it took
+abbrev pub TriesOnce : PlaceView → PlaceView → Type 0
+TriesOnce old new = (new.steps ≤ old.steps + 2) × (new.steps + new.takings ≤ old.steps + old.takings + 3)
+
+-- at each place the pass made at least as many steps
 abbrev pub NoFewer : (ℕ → ℕ) → (ℕ → ℕ) → Type 0
 NoFewer old new = (i : ℕ) → old i ≤ new i

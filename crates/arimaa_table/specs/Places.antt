@@ -8,10 +8,10 @@ use Rattle.arimaa_board.specs.declared.position.Position.{Position}
 use Rattle.arimaa_board.specs.declared.piece.Color.TheVariants.{Gold}
 use Rattle.arimaa_line.specs.declared.line.Line.{Line}
 use Rattle.arimaa_line.specs.Lines.{IsTrueLine, empty_line, stamp_of}
-use Rattle.arimaa_table.specs.declared.views.Kind.TheVariants.{Nothing, Load, Took, Missed}
-use Rattle.arimaa_table.specs.declared.views.PlaceView.{PlaceView}
-use Rattle.arimaa_table.specs.declared.views.PassView.{PassView}
-use Rattle.arimaa_table.specs.declared.views.Setting.{Setting}
+use Rattle.arimaa_table.specs.declared.view.Kind.TheVariants.{Nothing, Load, Took, Missed}
+use Rattle.arimaa_table.specs.declared.view.PlaceView.{PlaceView}
+use Rattle.arimaa_table.specs.declared.view.PassView.{PassView}
+use Rattle.arimaa_table.specs.declared.view.Setting.{Setting}
 
 -- what a pass knows of a place at which it made no step
 abbrev pub fresh : PlaceView
@@ -71,6 +71,7 @@ pub record Place (attacker : Color) (barred : List Position) (count : ℕ) (home
   pub holds : (j : ℕ) (p : PlaceView) → get_elem? ps j ≡ some p → p.holds ≡ true → Holds line count holder j p
   pub knows : (j : ℕ) (p : PlaceView) → get_elem? ps j ≡ some p → Knows line count p
   pub takings : takings_of ps ≡ (count + 1) / 2
+  pub first : count ≡ 0 → line ≡ empty_line
 
 -- what a pass knows of the place i
 abbrev pub at : ℕ → PassView → PlaceView
@@ -138,15 +139,15 @@ Later p c = (p.seen ≤ c) × (p.holds ≡ false → LastBelow p)
 abbrev pub loaded : Step Line → Mine → ℕ → Mine → Type 0
 loaded st m r m' = (m' ≡ (changed m.0 st.word (after_load (at st.word m.0) r), m.1)) × Later (at st.word m.0) r × WasRuled m'.0 st.word r
 
--- the line is true, and no older than the kept one
-abbrev pub IsFor : PassView → ℕ → Line → Type 0
-IsFor v i l = IsTrueLine v.attacker v.barred l × NoNewer (at i v).kept l
+-- the line found at the place i at the count c: it is true, no older than the kept one, and empty where no pass took the place before
+abbrev pub IsFor : PassView → ℕ → ℕ → Line → Type 0
+IsFor v i c l = IsTrueLine v.attacker v.barred l × NoNewer (at i v).kept l × (c ≡ 0 → l ≡ empty_line)
 
 -- a taking that expects the count that the pass has seen. Where it finds that count it takes the line, and else it tells that the count has moved on
 abbrev pub tried : Step Line → Mine → ℕ → Mine → Type 0
 tried st m r m' =
     st.first ≡ (at st.word m.0).seen
-    → (r ≡ st.first → (l : Line) × IsFor m.0 st.word l × (m' ≡ (changed m.0 st.word (after_take (at st.word m.0) r l), (st.word, l) ∷ m.1)))
+    → (r ≡ st.first → (l : Line) × IsFor m.0 st.word r l × (m' ≡ (changed m.0 st.word (after_take (at st.word m.0) r l), (st.word, l) ∷ m.1)))
     × (r ≢ st.first → (m' ≡ (changed m.0 st.word (after_miss (at st.word m.0) r), m.1)) × Later (at st.word m.0) r × WasRuled m'.0 st.word r)
 
 -- the line in hand
