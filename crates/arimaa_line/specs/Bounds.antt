@@ -1,5 +1,6 @@
 -- Bounds of a position's rank, and when they are true.
-use Rattle.std.specs.Prelude.{◌≡◌, ℕ, ◌<◌, ◌≤◌, min, max, Bool, true, false, List, Option, None, Some, IfSome}
+use Rattle.std.specs.Prelude.{◌≡◌, ℕ, ◌<◌, ◌≤◌, min, max, Bool, true, false}
+use Rattle.std.specs.Prelude.{List, Option, None, Some, IfSome}
 use Rattle.arimaa_board.specs.declared.piece.Color.{Color}
 use Rattle.arimaa_board.specs.declared.position.Position.{Position}
 use Rattle.arimaa_model.specs.Wins.{wins}
@@ -12,7 +13,7 @@ AreBounds None (Some high) = high ≤ 20
 AreBounds (Some low) None = low ≤ 20
 AreBounds (Some low) (Some high) = (low < high) × (high ≤ 20)
 
--- the bounds are on a question of this attacker where these positions are barred, and they are right
+-- the bounds are those of this attacker, and right where these positions are barred
 pub record AreTrueBounds (side : Color) (barred : List Position) (k : Bounds) : Type 0 where
   pub attacker : k.attacker ≡ side
   pub bounds : AreBounds k.low k.high
@@ -31,7 +32,7 @@ KeepsHigh None new = Unit {0}
 KeepsHigh (Some old) None = ⊥
 KeepsHigh (Some old) (Some new) = new ≤ old
 
--- for whichever side and barred positions the bounds are right, the answer at this depth is that of a win
+-- wherever the bounds are right, the answer at this depth is that of the definition of a win
 abbrev pub IsRightAnswer : Bounds → ℕ → Option Bool → Type 0
 IsRightAnswer k depth answer = (side : Color) (barred : List Position)
     → AreTrueBounds side barred k
@@ -39,8 +40,10 @@ IsRightAnswer k depth answer = (side : Color) (barred : List Position)
 
 -- what a verdict at a depth says: a yes gives `high`, and a no gives `low`
 abbrev pub verdict_bounds : Position → Color → ℕ → Bool → Bounds
-verdict_bounds p attacker depth true = record { position = p; attacker = attacker; low = None; high = Some depth }
-verdict_bounds p attacker depth false = record { position = p; attacker = attacker; low = Some depth; high = None }
+verdict_bounds p attacker depth true =
+    record { position = p; attacker = attacker; low = None; high = Some depth }
+verdict_bounds p attacker depth false =
+    record { position = p; attacker = attacker; low = Some depth; high = None }
 
 -- no bound is lost or loosened
 pub record KeepsBounds (old new : Bounds) : Type 0 where
@@ -61,4 +64,5 @@ earlier_bound (Some m) (Some n) = Some (min m n)
 
 -- of each kind the tighter bound
 abbrev pub tightest : Bounds → Bounds → Bounds
-tightest one other = record one { low = later_bound one.low other.low; high = earlier_bound one.high other.high }
+tightest one other =
+    record one { low = later_bound one.low other.low; high = earlier_bound one.high other.high }

@@ -36,7 +36,8 @@ Says l p k = IsLineOf l k × (k.position ≡ p)
 
 -- a line is true where it is empty, or says bounds that are right
 unfoldable pub IsTrueLine : Color → List Position → Line → Type 0
-IsTrueLine attacker barred l = (l ≡ empty_line) ⊎ ((k : Bounds) × IsLineOf l k × AreTrueBounds attacker barred k)
+IsTrueLine attacker barred l =
+    (l ≡ empty_line) ⊎ ((k : Bounds) × IsLineOf l k × AreTrueBounds attacker barred k)
 
 -- the line is empty, or says some bounds: so are all lines that are true somewhere
 unfoldable pub IsLine : Line → Type 0

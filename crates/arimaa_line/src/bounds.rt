@@ -117,8 +117,8 @@ pub(crate) fn are_bounds(low: Option<u8>, high: Option<u8>) -> bool
 
 /// Whether the attacker wins within `depth` turns, as far as the bounds say so.
 ///
-/// No where `low` stands and the depth is at most `low`, yes where `high` stands and the depth is at
-/// least `high`, and else none. Of true bounds each answer is right.
+/// No where `low` stands and the depth is at most `low`, yes where `high` stands and the depth is
+/// at least `high`, and else none. Of true bounds each answer is right.
 pub fn answers(bounds: &Bounds, depth: u8) -> Option<bool>
     requires { AreBounds bounds.now.low bounds.now.high }
     ensures no { (result ≡ Some false) ↔ IsSomeAnd bounds.now.low (λ low. depth ≤ low) }
@@ -142,11 +142,9 @@ pub fn answers(bounds: &Bounds, depth: u8) -> Option<bool>
 pub fn bounds_of_verdict(position: &Position, attacker: Color, depth: u8, verdict: bool) -> Bounds
     requires { depth ≤ 20 }
     ensures value { result ≡ verdict_bounds position.now attacker depth verdict }
-    ensures right {
-        (barred : List Position)
+    ensures right { (barred : List Position)
         → verdict ≡ wins attacker barred depth position.now
-        → AreTrueBounds attacker barred result
-    }
+        → AreTrueBounds attacker barred result }
 {
     if verdict {
         Bounds {
@@ -197,12 +195,10 @@ pub fn tightest(one: &Bounds, other: &Bounds) -> Bounds
     ensures value { result ≡ tightest one.now other.now }
     ensures keeps_one { KeepsBounds one.now result }
     ensures keeps_other { KeepsBounds other.now result }
-    ensures right {
-        (side : Color) (barred : List Position)
+    ensures right { (side : Color) (barred : List Position)
         → AreTrueBounds side barred one.now
         → AreTrueBounds side barred other.now
-        → AreTrueBounds side barred result
-    }
+        → AreTrueBounds side barred result }
 {
     Bounds {
         position: one.position,

@@ -67,9 +67,9 @@ fn unpack(line: &Line) -> Option<Bounds>
 
 /// What a line says.
 ///
-/// None exactly where the words are the line of no bounds with a stamp of at least 1: so at the empty
-/// line, at a code of no piece, at another version, at a bit that has no use, and where no bound
-/// stands, one is above 20, or `low` is not below `high`.
+/// None exactly where the words are the line of no bounds with a stamp of at least 1: so at the
+/// empty line, at a code of no piece, at another version, at a bit that has no use, and where no
+/// bound stands, one is above 20, or `low` is not below `high`.
 pub fn decode(line: &Line) -> Option<Bounds>
     ensures { (k : Bounds) → (result ≡ Some k) ↔ IsLineOf line.now k }
 {
@@ -103,19 +103,17 @@ pub fn read(line: &Line, position: &Position) -> Option<Bounds>
     }
 }
 
-/// What to put over a line: these bounds and, where the line names the same position, its bounds too,
-/// of each kind the tighter one.
+/// What to put over a line: these bounds and, where the line names the same position, its bounds
+/// too, of each kind the tighter one.
 pub fn bounds_over(line: &Line, known: &Bounds) -> Bounds
     requires { IsLine line.now }
     ensures position { result.position ≡ known.now.position }
     ensures keeps_known { KeepsBounds known.now result }
     ensures keeps_line { LosesNoBound line.now result }
-    ensures right {
-        (side : Color) (barred : List Position)
+    ensures right { (side : Color) (barred : List Position)
         → IsTrueLine side barred line.now
         → AreTrueBounds side barred known.now
-        → AreTrueBounds side barred result
-    }
+        → AreTrueBounds side barred result }
 {
     match read(line, &known.position) {
         Some(seen) => tightest(known, &seen),

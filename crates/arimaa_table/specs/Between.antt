@@ -7,7 +7,8 @@ use Rattle.arimaa_table.specs.declared.view.Kind.TheVariants.{Load, Missed}
 use Rattle.arimaa_table.specs.declared.view.PlaceView.{PlaceView}
 use Rattle.arimaa_table.specs.declared.view.PassView.{PassView}
 use Rattle.arimaa_table.specs.declared.view.Setting.{Setting}
-use Rattle.arimaa_table.specs.Places.{at, after_load, after_take, changed, IsFor, IsLive, Later, WasRuled}
+use Rattle.arimaa_table.specs.Places.{at, after_load, after_take, changed}
+use Rattle.arimaa_table.specs.Places.{IsFor, IsLive, Later, WasRuled}
 
 -- the largest odd number up to c, or 0
 abbrev pub odd_up_to : ℕ → ℕ
@@ -17,7 +18,7 @@ odd_up_to c = c - (c + 1) % 2
 abbrev pub LoadFailed : PlaceView → ℕ → Type 0
 LoadFailed new c = (new.kind ≡ Load) × ((c % 2 ≡ 1) ⊎ (c ≡ 2 ^ 64 - 2))
 
--- the last step was a taking after another step of the call, and failed since the count had moved on
+-- the last step was a taking after another step, and failed since the count had moved on
 abbrev pub TakingFailed : PlaceView → PlaceView → ℕ → Type 0
 TakingFailed old new c = (new.kind ≡ Missed) × (old.steps + 2 ≤ new.steps) × (old.seen < c)
 
@@ -67,10 +68,15 @@ pub record IsBusy (v : PassView) (i c : ℕ) (m : Me Line PassView) : Type 0 whe
   pub tries : now.steps ≤ (at i v).steps + 2
   pub ruled : WasRuled m.0 i c
 
--- it is about to give x back
+-- what may be given back in place of a line: itself, or a newer true one
+abbrev pub IsGoodNext : Setting → Line → Line → Type 0
+IsGoodNext k old new =
+    (new ≡ old) ⊎ ((stamp_of old < stamp_of new) × IsTrueLine k.attacker k.barred.items new)
+
+-- the pass holds the place i at the even count c, and may give the line x back
 pub record MayGive (k : Setting) (i c : ℕ) (x : Line) (m : Me Line PassView) : Type 0 where
   pub live : IsLive k m.0
   pub hand : m.1 ≡ (i, empty_line) ∷ []
   pub holds : (at i m.0).holds ≡ true
   pub count : (at i m.0).last ≡ c + 1
-  pub good : (x ≡ (at i m.0).kept) ⊎ ((stamp_of (at i m.0).kept < stamp_of x) × IsTrueLine k.attacker k.barred.items x)
+  pub good : IsGoodNext k (at i m.0).kept x
