@@ -7,7 +7,7 @@ use Rattle.arimaa_table.specs.declared.view.Kind.TheVariants.{Load, Missed}
 use Rattle.arimaa_table.specs.declared.view.PlaceView.{PlaceView}
 use Rattle.arimaa_table.specs.declared.view.PassView.{PassView}
 use Rattle.arimaa_table.specs.declared.view.Setting.{Setting}
-use Rattle.arimaa_table.specs.Places.{at, after_load, after_take, changed}
+use Rattle.arimaa_table.specs.Places.{at, after_load, after_take, view_with}
 use Rattle.arimaa_table.specs.Places.{IsFor, IsLive, Later, WasRuled}
 
 -- the largest odd number up to c, or 0
@@ -49,12 +49,12 @@ pub record WasBusy (old new : PlaceView) (c : ℕ) : Type 0 where
   pub free : new.holds ≡ old.holds
 
 -- after a load that found the even count c and a taking that found the line l
-abbrev pub taken : PlaceView → ℕ → Line → PlaceView
-taken p c l = after_take (after_load p c) c l
+abbrev pub place_after_taking : PlaceView → ℕ → Line → PlaceView
+place_after_taking p c l = after_take (after_load p c) c l
 
 -- the pass holds the place i, whose line l has been moved out of its slot
 pub record IsOut (v : PassView) (i c : ℕ) (l : Line) (m : Me Line PassView) : Type 0 where
-  pub me : m ≡ (changed v i (taken (at i v) c l), (i, empty_line) ∷ [])
+  pub me : m ≡ (view_with v i (place_after_taking (at i v) c l), (i, empty_line) ∷ [])
   pub line : IsFor v i c l
   pub even : c % 2 ≡ 0
   pub below : c + 2 < 2 ^ 64
@@ -63,7 +63,7 @@ pub record IsOut (v : PassView) (i c : ℕ) (l : Line) (m : Me Line PassView) : 
 -- the pass does not hold the place i, at which it found the count c
 pub record IsBusy (v : PassView) (i c : ℕ) (m : Me Line PassView) : Type 0 where
   pub now : PlaceView
-  pub me : m ≡ (changed v i now, [])
+  pub me : m ≡ (view_with v i now, [])
   pub was : WasBusy (at i v) now c
   pub tries : now.steps ≤ (at i v).steps + 2
   pub ruled : WasRuled m.0 i c

@@ -20,7 +20,7 @@ use Rattle.arimaa_table.specs.declared.answers.Looked.TheVariants as looked
 use Rattle.arimaa_table.specs.declared.answers.Put.{Put}
 use Rattle.arimaa_table.specs.declared.answers.Put.TheVariants.{Stored, Lost, Busy, Worn}
 use Rattle.arimaa_table.specs.Between.{WasBusy}
-use Rattle.arimaa_table.specs.Places.{at, IsLive, changed, NoNewer, Ruled}
+use Rattle.arimaa_table.specs.Places.{at, IsLive, view_with, NoNewer, Ruled}
 
 -- what the table was told once, when it was made
 abbrev pub setting_of : Table → Setting
@@ -75,7 +75,7 @@ pub record TookLine (t : Table) (old new : PlaceView) (l x : Line) : Type 0 wher
 
 -- what the pass knows has changed at the place i alone
 abbrev pub OnlyHere : TablePass → TablePass → ℕ → Type 0
-OnlyHere old new i = view new ≡ changed (view old) i (place_view new i)
+OnlyHere old new i = view new ≡ view_with (view old) i (place_view new i)
 
 -- what a look at the place i answers
 abbrev pub LookedAt : Table → TablePass → TablePass → ℕ → Looked → Type 0

@@ -16,8 +16,8 @@ use Rattle.arimaa_table.specs.declared.view.PassView.{PassView}
 use Rattle.arimaa_table.specs.declared.view.Setting.{Setting}
 
 -- what a pass knows of a place at which it made no step
-abbrev pub fresh : PlaceView
-fresh = record {
+abbrev pub untouched_place : PlaceView
+untouched_place = record {
   kept = empty_line;
   took = empty_line;
   seen = 0;
@@ -103,7 +103,7 @@ pub record Place (attacker : Color) (barred : List Position)
 
 -- what a pass knows of the place i
 abbrev pub at : ℕ → PassView → PlaceView
-at i v = slice_index_or v.places i fresh
+at i v = slice_index_or v.places i untouched_place
 
 -- what the table was told, and what a pass knows of it
 pub record Context : Type 0 where
@@ -112,8 +112,8 @@ pub record Context : Type 0 where
   pub lines : ℕ
 
 -- the context of a table
-abbrev pub told : Setting → Context
-told k = record { attacker = k.attacker; barred = k.barred.items; lines = k.lines }
+abbrev pub context_of : Setting → Context
+context_of k = record { attacker = k.attacker; barred = k.barred.items; lines = k.lines }
 
 -- the context that a pass was given
 abbrev pub context : PassView → Context
@@ -135,7 +135,7 @@ pub record Rule (k : Context) (s : State Line PassView) : Type 0 where
 
 -- the rule of a table
 abbrev pub Ruled : Setting → State Line PassView → Type 0
-Ruled k = Rule (told k)
+Ruled k = Rule (context_of k)
 
 -- the rule held at a moment at which a pass knew this, and the place i had the count c
 abbrev pub WasRuled : PassView → ℕ → ℕ → Type 0
@@ -149,7 +149,7 @@ first_view k = record {
   spent = false;
   attacker = k.attacker;
   barred = k.barred.items;
-  places = replicate k.lines fresh;
+  places = replicate k.lines untouched_place;
 }
 
 -- a pass of a table with this setting, which is not spent
@@ -163,8 +163,8 @@ abbrev pub HoldsNone : PassView → Type 0
 HoldsNone v = (i : ℕ) → (at i v).holds ≡ false
 
 -- the view with what it knows of the place i replaced
-abbrev pub changed : PassView → ℕ → PlaceView → PassView
-changed v i p = record v { places = slice_set v.places i p }
+abbrev pub view_with : PassView → ℕ → PlaceView → PassView
+view_with v i p = record v { places = slice_set v.places i p }
 
 -- the view of the pass that steps, and the lines that it has in hand
 abbrev Mine : Type 0
@@ -175,9 +175,9 @@ abbrev pub Later : PlaceView → ℕ → Type 0
 Later p c = (p.seen ≤ c) × (p.holds ≡ false → LastBelow p)
 
 -- what a load tells: the count, which is no smaller than the one seen before
-abbrev pub loaded : Step Line → Mine → ℕ → Mine → Type 0
-loaded st m r m' =
-    (m' ≡ (changed m.0 st.word (after_load (at st.word m.0) r), m.1))
+abbrev pub TellsLoad : Step Line → Mine → ℕ → Mine → Type 0
+TellsLoad st m r m' =
+    (m' ≡ (view_with m.0 st.word (after_load (at st.word m.0) r), m.1))
     × Later (at st.word m.0) r × WasRuled m'.0 st.word r
 
 -- the line found is true, no older than the kept one, and empty where no pass took it before
@@ -186,13 +186,13 @@ IsFor v i c l =
     IsTrueLine v.attacker v.barred l × NoNewer (at i v).kept l × (c ≡ 0 → l ≡ empty_line)
 
 -- a taking that expects the count seen takes the line at that count, and else tells the count found
-abbrev pub tried : Step Line → Mine → ℕ → Mine → Type 0
-tried st m r m' =
+abbrev pub TellsTaking : Step Line → Mine → ℕ → Mine → Type 0
+TellsTaking st m r m' =
     st.first ≡ (at st.word m.0).seen
     → (r ≡ st.first → (l : Line)
     × IsFor m.0 st.word r l
-    × (m' ≡ (changed m.0 st.word (after_take (at st.word m.0) r l), (st.word, l) ∷ m.1)))
-    × (r ≢ st.first → (m' ≡ (changed m.0 st.word (after_miss (at st.word m.0) r), m.1))
+    × (m' ≡ (view_with m.0 st.word (after_take (at st.word m.0) r l), (st.word, l) ∷ m.1)))
+    × (r ≢ st.first → (m' ≡ (view_with m.0 st.word (after_miss (at st.word m.0) r), m.1))
     × Later (at st.word m.0) r
     × WasRuled m'.0 st.word r)
 
@@ -202,30 +202,30 @@ in_hand [] = empty_line
 in_hand (x ∷ xs) = x.1
 
 -- what a giving tells: the line in hand is the line of the place from then on
-abbrev pub gave : Step Line → Mine → ℕ → Mine → Type 0
-gave st m r m' =
-    (m' ≡ (changed m.0 st.word (after_give (at st.word m.0) r (in_hand m.1)), rest m.1))
+abbrev pub TellsGiving : Step Line → Mine → ℕ → Mine → Type 0
+TellsGiving st m r m' =
+    (m' ≡ (view_with m.0 st.word (after_give (at st.word m.0) r (in_hand m.1)), rest m.1))
     × WasRuled m'.0 st.word r
 
 -- a split: the pass keeps all, and the new one is a copy without takings
-abbrev pub whole : PassView → PassView
-whole v = v
+abbrev pub same_view : PassView → PassView
+same_view v = v
 
 -- what a new pass knows of a place: what the old one knows, but for its takings
-abbrev pub untaken : PlaceView → PlaceView
-untaken p = record p { takings = 0; last = 0; took = empty_line }
+abbrev pub place_without_takings : PlaceView → PlaceView
+place_without_takings p = record p { takings = 0; last = 0; took = empty_line }
 
 -- the view of a new pass
-abbrev pub without_takings : PassView → PassView
-without_takings v = record v { places = map untaken v.places }
+abbrev pub view_without_takings : PassView → PassView
+view_without_takings v = record v { places = map place_without_takings v.places }
 
 -- a join
 abbrev pub newer : Line → Line → Line
 newer a b = if nat_lt (stamp_of a) (stamp_of b) then b else a
 
 -- what two passes know together: the newer line, the larger counts, all takings and steps
-abbrev pub merged : PlaceView → PlaceView → PlaceView
-merged p q = record {
+abbrev pub place_after_join : PlaceView → PlaceView → PlaceView
+place_after_join p q = record {
   kept = newer p.kept q.kept;
   took = p.took;
   seen = max p.seen q.seen;
@@ -238,14 +238,14 @@ merged p q = record {
 }
 
 -- the same, place by place
-abbrev pub merged_all : List PlaceView → List PlaceView → List PlaceView
-merged_all [] qs = []
-merged_all (p ∷ ps) [] = []
-merged_all (p ∷ ps) (q ∷ qs) = merged p q ∷ merged_all ps qs
+abbrev pub places_after_join : List PlaceView → List PlaceView → List PlaceView
+places_after_join [] qs = []
+places_after_join (p ∷ ps) [] = []
+places_after_join (p ∷ ps) (q ∷ qs) = place_after_join p q ∷ places_after_join ps qs
 
 -- the view of a pass to which another was joined
-abbrev pub joined : PassView → PassView → PassView
-joined v w = record v { places = merged_all v.places w.places }
+abbrev pub view_after_join : PassView → PassView → PassView
+view_after_join v w = record v { places = places_after_join v.places w.places }
 
 -- the view of a pass that was joined to another
 abbrev pub spent_view : PassView
