@@ -1,11 +1,11 @@
 -- Sums over seats, and lists of numbers.
-use Rattle.std.proofs.Common.{◌≡◌, ℕ, zero, suc, ◌+◌, ◌-◌, ◌<◌, ◌≤◌, ◌≢◌, ◌⊎◌, Bool, true, false, List, [], ◌∷◌, ◌++◌, max, min, set, sym, refl, ap, ◌∙◌, inl, inr, ⊎_elim, subst, arith}
+use Rattle.std.proofs.Common.{◌≡◌, ℕ, zero, suc, ◌+◌, ◌-◌, ◌<◌, ◌≤◌, ◌≢◌, ◌⊎◌, true, List, [], ◌∷◌, ◌++◌, min, set, sym, refl, ap, arith}
 use Rattle.std.proofs.lemmas.Bool.Decides.{nat_tests}
-use Rattle.std.specs.Prelude.{◌==◌, nat_le, nat_lt, if◌then◌else◌}
+use Rattle.std.specs.Prelude.{nat_lt, if◌then◌else◌}
 use mathlib.Core.Option.{some, some-injective, some-ne-none}
 use lib.ListN.{get_elem?}
 use Rattle.arimaa_jobs.specs.declared.view.SeatView.{SeatView}
-use Rattle.arimaa_jobs.specs.Rule.{total, one_if_same, times, Stands, once_below, smallest_of, least_of, ends_above, view_after_draw, spent_view}
+use Rattle.arimaa_jobs.specs.Rule.{total, times, once_below, smallest_of, least_of, ends_above, view_after_draw, spent_view}
 
 module _ (f : SeatView → ℕ) where
   pub total-set : (vs : List SeatView) (j : ℕ) (v w : SeatView) → get_elem? vs j ≡ some v → total f (set vs j w) + f v ≡ total f vs + f w

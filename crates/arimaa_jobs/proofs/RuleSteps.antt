@@ -1,16 +1,15 @@
 -- Each step keeps the rule of the jobs.
-use Rattle.std.proofs.Common.{◌≡◌, ℕ, zero, suc, ◌+◌, ◌-◌, ◌%◌, ◌^◌, ◌<◌, ◌≤◌, ◌≢◌, ◌⊎◌, Bool, true, false, List, [], ◌∷◌, ◌++◌, max, min, length, get_or, set, sym, refl, ap, ◌∙◌, inl, inr, ⊎_elim, subst, arith, length-set, get_or-set_other, get_or-set_same, append-nil}
-use Rattle.std.specs.Prelude.{nat_lt, if◌then◌else◌}
+use Rattle.std.proofs.Common.{◌≡◌, ℕ, zero, suc, ◌+◌, ◌-◌, ◌%◌, ◌^◌, ◌<◌, ◌≤◌, ◌≢◌, ◌⊎◌, List, [], ◌∷◌, ◌++◌, min, length, get_or, set, sym, refl, ap, ◌∙◌, inl, inr, ⊎_elim, subst, arith, length-set, get_or-set_other, get_or-set_same}
 use mathlib.Core.Option as maybe
 use Rattle.std.proofs.lemmas.Bool.Decides.{nat_tests}
 use mathlib.Core.Option.{some, none, some-injective, some-ne-none}
 use lib.ListN.{get_elem?}
 use native.Mathlib.Decide.{ℕ_discrete}
-use Rattle.atomic_table.specs.Table.{State, Me, step, keeps, stepped, Allows, Splits, Joins, opening}
-use Rattle.atomic_table.proofs.Lists.{at_set, set_again, at_snoc, set_else, set_here}
+use Rattle.atomic_table.specs.Table.{State, Me, step, keeps, Allows, Splits, Joins, opening}
+use Rattle.atomic_table.proofs.Lists.{at_set, at_snoc, set_else}
 use Rattle.arimaa_jobs.specs.declared.view.SeatView.{SeatView}
-use Rattle.arimaa_jobs.specs.Rule.{total, times, Stands, once_below, smallest_of, least_of, ends_above, IsSeat, IsBlank, JobRule, Ruled, first_view, view_after_draw, view_after_report, view_after_split, view_of_new_seat, view_after_join, spent_view, WholeSees, IsAbove, TellsDraw, TellsReport, TellsLook}
-use Rattle.arimaa_jobs.proofs.Counts.{total-set, total-snoc, total-member, total-none, total-alone, times-append, once-suc, once-in, once-most, once-out, ends-snoc, ends-append, spare-left, smallest-append, least-small, least-set, least-same, least-spent, least-member, least-snoc, least-alone, apart_none, once_here}
+use Rattle.arimaa_jobs.specs.Rule.{times, Stands, once_below, smallest_of, IsSeat, IsBlank, JobRule, Ruled, first_view, view_after_draw, view_after_report, view_after_split, view_of_new_seat, view_after_join, spent_view, WholeSees, IsAbove, TellsDraw, TellsReport, TellsLook}
+use Rattle.arimaa_jobs.proofs.Counts.{total-set, total-snoc, total-member, total-alone, times-append, once-suc, once-in, once-most, once-out, ends-snoc, ends-append, spare-left, smallest-append, least-small, least-set, least-same, least-spent, least-member, least-snoc, least-alone, apart_none, once_here}
 
 there : (l : List SeatView) (j : ℕ) (y a : SeatView) → get_elem? l j ≡ some y → get_elem? (set l j a) j ≡ some a
 there [] j y a e = absurd (some-ne-none y (sym e))
