@@ -1,8 +1,8 @@
-//! Where the line of a question lies in a table.
+//! Where the line of a position lies in a table.
 ghost use Rattle.std.specs.Prelude.{◌≡◌, ℕ, ◌+◌, ◌*◌, ◌<◌, ◌≤◌, ◌%◌, ◌^◌};
 ghost use Rattle.arimaa_line.specs.Index.{piece_share, content_share, side_share, place_of};
 
-use arimaa_board::{Color, Piece, Position, Square};
+use arimaa_board::{Color, Piece, Position, first_square, without};
 
 // What a piece of this code on this square adds.
 fn piece_share(square: u64, code: u64) -> u64
@@ -38,19 +38,21 @@ fn side_share(side: Color) -> u64
     }
 }
 
-/// The place of a question's line among that many lines.
+/// The place of a position's line among that many lines.
 ///
 /// For a piece of code c on square s let v = 16s + c. The place is the sum over all pieces of
-/// v * v + 257 * v, plus 1,031 times the depth, plus 517 where Silver is to move, modulo the number
-/// of lines. So it is always below that number.
-pub fn index_of(position: &Position, depth: u8, lines: u32) -> u32
+/// v * v + 257 * v, plus 517 where Silver is to move, modulo the number of lines. So it is always
+/// below that number.
+pub fn index_of(position: &Position, lines: u32) -> u32
     requires { 1 ≤ lines }
-    ensures place { result ≡ place_of position.now depth lines }
+    ensures place { result ≡ place_of position.now lines }
     ensures below { result < lines }
 {
-    let mut sum = 1031 * depth as u64 + side_share(position.side);
-    for n in 0..64u8 {
-        sum += content_share(n, position.board.at(Square::from_number(n)));
+    let mut sum = side_share(position.side);
+    let mut rest = position.board.occupied();
+    while let Some(square) = first_square(rest) {
+        sum += content_share(square.number(), position.board.at(square));
+        rest = without(rest, square);
     }
     (sum % lines as u64) as u32
 }

@@ -9,9 +9,9 @@ use Rattle.arimaa_board.specs.declared.position.Position.{Position}
 use Rattle.arimaa_line.specs.declared.line.Line.{Line}
 use Rattle.arimaa_line.specs.Lines.{IsTrueLine, stamp_of}
 use Rattle.arimaa_line.proofs.Truth.{stampless}
-use Rattle.arimaa_table.specs.declared.views.Kind.{Kind}
-use Rattle.arimaa_table.specs.declared.views.PlaceView.{PlaceView}
-use Rattle.arimaa_table.specs.Places.{fresh, after_take, after_give, NoNewer, Knows, takings_of, Place, Later, newer, merged}
+use Rattle.arimaa_table.specs.declared.view.Kind.{Kind}
+use Rattle.arimaa_table.specs.declared.view.PlaceView.{PlaceView}
+use Rattle.arimaa_table.specs.Places.{untouched_place, after_take, after_give, NoNewer, Knows, takings_of, Place, Later, newer, place_after_join}
 
 pub takings-set : (ps : List PlaceView) (j : ℕ) (p q : PlaceView) → get_elem? ps j ≡ some p → takings_of (set ps j q) + p.takings ≡ takings_of ps + q.takings
 takings-set [] j p q e = absurd (some-ne-none p (sym e))
@@ -34,7 +34,7 @@ pub same_line : (l : Line) → NoNewer l l
 same_line l = (le_refl (stamp_of l), λ _. refl)
 
 module _ (attacker : Color) (barred : List Position) where
-  pub knows_nothing : (l : Line) (count : ℕ) → IsTrueLine attacker barred l → Knows l count fresh
+  pub knows_nothing : (l : Line) (count : ℕ) → IsTrueLine attacker barred l → Knows l count untouched_place
   knows_nothing l count t = record { kept = (omega arith, λ e. stampless attacker barred l t (sym e)); seen = omega arith; held = λ e. absurd (true_not_false false e refl); free = λ _. inl refl; none_taken = λ _. refl }
 
   -- the view of one pass becomes q, which knows the place as p did
@@ -56,6 +56,7 @@ module _ (attacker : Color) (barred : List Position) where
         (λ (t : (j ≢ id) × (get_elem? ps j ≡ some x)). k.holds j x t.1 held) (at_set ps id j q x e);
     knows = λ j x e. ⊎_elim (λ (t : (j ≡ id) × (q ≡ x)). subst (Knows k.line c) t.1 knows) (λ (t : (j ≢ id) × (get_elem? ps j ≡ some x)). k.knows j x t.1) (at_set ps id j q x e);
     takings = let t = takings-set ps id p q at in let old = k.takings in omega (arith, takings);
+    first = k.first;
   }
     where
       still : Dec (k.holder ≡ id) → (y : PlaceView) × (get_elem? ps k.holder ≡ some y) × (y.holds ≡ true) → (y : PlaceView) × (get_elem? (set ps id q) k.holder ≡ some y) × (y.holds ≡ true)
@@ -95,6 +96,7 @@ module _ (attacker : Color) (barred : List Position) where
         (λ (t : (j ≢ id) × (get_elem? ps j ≡ some x)). let o = k.knows j x t.1 in let b : x.seen ≤ c = o.seen in record { kept = o.kept; seen = omega arith; held = o.held; free = o.free; none_taken = o.none_taken })
         (at_set ps id j q x e);
     takings = let t = takings-set ps id p q at in let old = k.takings in omega arith;
+    first = λ none. absurd (omega arith);
   }
 
   -- a giving, of the line that was taken or of a newer one
@@ -122,6 +124,7 @@ module _ (attacker : Color) (barred : List Position) where
         })
         (at_set ps id j q y e);
     takings = let t = takings-set ps id p q at in let old = k.takings in omega arith;
+    first = λ none. absurd (omega arith);
   }
 
   -- a new pass, which holds nothing
@@ -135,6 +138,7 @@ module _ (attacker : Color) (barred : List Position) where
     holds = λ j x e held. ⊎_elim (λ (t : get_elem? ps j ≡ some x). k.holds j x t held) (λ (t : q ≡ x). absurd (true_not_false x.holds held (ap (λ (y : PlaceView). y.holds) (sym t) ∙ free))) (at_snoc ps q x j e);
     knows = λ j x e. ⊎_elim (λ (t : get_elem? ps j ≡ some x). k.knows j x t) (λ (t : q ≡ x). subst (Knows k.line c) t knows) (at_snoc ps q x j e);
     takings = let t = takings-snoc ps q in let old = k.takings in omega (arith, none_taken);
+    first = k.first;
   }
 
   newer_knows : (line a b : Line) → NoNewer a line → NoNewer b line → NoNewer (newer a b) line
@@ -142,8 +146,8 @@ module _ (attacker : Color) (barred : List Position) where
 
   -- a join of two passes that hold nothing
   pub joins : (c : ℕ) (h : Option (Option Line)) (ps : List PlaceView) (id other : ℕ) (p q : PlaceView) (k : Place attacker barred c h ps) → get_elem? ps id ≡ some p → ¬ (other ≡ id)
-      → get_elem? (set ps id (merged p q)) other ≡ some q → p.holds ≡ false → q.holds ≡ false → Place attacker barred c h (set (set ps id (merged p q)) other fresh)
-  joins c h ps id other p q k at apart at' p_free q_free = let m : PlaceView = merged p q in let ps' : List PlaceView = set ps id m in let at_old : get_elem? ps other ≡ some q = sym (set_else ps id other m apart) ∙ at' in
+      → get_elem? (set ps id (place_after_join p q)) other ≡ some q → p.holds ≡ false → q.holds ≡ false → Place attacker barred c h (set (set ps id (place_after_join p q)) other untouched_place)
+  joins c h ps id other p q k at apart at' p_free q_free = let m : PlaceView = place_after_join p q in let ps' : List PlaceView = set ps id m in let at_old : get_elem? ps other ≡ some q = sym (set_else ps id other m apart) ∙ at' in
       let o = k.knows id p at in let w = k.knows other q at_old in record {
         line = k.line;
         holder = k.holder;
@@ -153,15 +157,15 @@ module _ (attacker : Color) (barred : List Position) where
           a.0,
           (
             a.1.0,
-            set_else ps' other k.holder fresh (λ e. true_not_false a.1.0.holds a.1.2 (ap (λ (y : PlaceView). y.holds) (some-injective a.1.0 q (sym a.1.1 ∙ (subst (λ (j : ℕ). get_elem? ps j ≡ some q) (sym e) at_old))) ∙ q_free))
+            set_else ps' other k.holder untouched_place (λ e. true_not_false a.1.0.holds a.1.2 (ap (λ (y : PlaceView). y.holds) (some-injective a.1.0 q (sym a.1.1 ∙ (subst (λ (j : ℕ). get_elem? ps j ≡ some q) (sym e) at_old))) ∙ q_free))
                 ∙ (set_else ps id k.holder m (λ e. true_not_false a.1.0.holds a.1.2 (ap (λ (y : PlaceView). y.holds) (some-injective a.1.0 p (sym a.1.1 ∙ (subst (λ (j : ℕ). get_elem? ps j ≡ some p) (sym e) at))) ∙ p_free)) ∙ a.1.1),
             a.1.2,
           ),
         );
-        holds = λ j x e held. ⊎_elim (λ (t : (j ≡ other) × (fresh ≡ x)). absurd (true_not_false x.holds held (ap (λ (y : PlaceView). y.holds) (sym t.1))))
+        holds = λ j x e held. ⊎_elim (λ (t : (j ≡ other) × (untouched_place ≡ x)). absurd (true_not_false x.holds held (ap (λ (y : PlaceView). y.holds) (sym t.1))))
             (λ (t : (j ≢ other) × (get_elem? ps' j ≡ some x)). ⊎_elim (λ (u : (j ≡ id) × (m ≡ x)). absurd (true_not_false x.holds held (ap (λ (y : PlaceView). y.holds) (sym u.1))))
-            (λ (u : (j ≢ id) × (get_elem? ps j ≡ some x)). k.holds j x u.1 held) (at_set ps id j m x t.1)) (at_set ps' other j fresh x e);
-        knows = λ j x e. ⊎_elim (λ (t : (j ≡ other) × (fresh ≡ x)). subst (Knows k.line c) t.1 (knows_nothing k.line c k.is_true))
+            (λ (u : (j ≢ id) × (get_elem? ps j ≡ some x)). k.holds j x u.1 held) (at_set ps id j m x t.1)) (at_set ps' other j untouched_place x e);
+        knows = λ j x e. ⊎_elim (λ (t : (j ≡ other) × (untouched_place ≡ x)). subst (Knows k.line c) t.1 (knows_nothing k.line c k.is_true))
             (λ (t : (j ≢ other) × (get_elem? ps' j ≡ some x)). ⊎_elim
             (λ (u : (j ≡ id) × (m ≡ x)). subst (Knows k.line c) u.1 record {
               kept = newer_knows k.line p.kept q.kept o.kept w.kept;
@@ -170,8 +174,9 @@ module _ (attacker : Color) (barred : List Position) where
               free = λ _. below p.last p.seen q.last q.seen (o.free p_free) (w.free q_free);
               none_taken = λ z. let a = o.none_taken (omega arith) in let b = w.none_taken (omega arith) in omega arith;
             })
-            (λ (u : (j ≢ id) × (get_elem? ps j ≡ some x)). k.knows j x u.1) (at_set ps id j m x t.1)) (at_set ps' other j fresh x e);
-        takings = let t = takings-set ps id p m at in let u = takings-set ps' other q fresh at' in let old = k.takings in omega arith;
+            (λ (u : (j ≢ id) × (get_elem? ps j ≡ some x)). k.knows j x u.1) (at_set ps id j m x t.1)) (at_set ps' other j untouched_place x e);
+        takings = let t = takings-set ps id p m at in let u = takings-set ps' other q untouched_place at' in let old = k.takings in omega arith;
+        first = k.first;
       }
     where
       below : (a b x y : ℕ) → (a ≡ 0) ⊎ (a < b) → (x ≡ 0) ⊎ (x < y) → (max a x ≡ 0) ⊎ (max a x < max b y)
@@ -181,5 +186,5 @@ module _ (attacker : Color) (barred : List Position) where
       below a b x y (inr l) (inr g) = inr (omega arith)
 
 -- a joined pass keeps no older line than either did
-pub merged_no_older : (p q : PlaceView) → (stamp_of p.kept ≤ stamp_of (merged p q).kept) × (stamp_of q.kept ≤ stamp_of (merged p q).kept)
+pub merged_no_older : (p q : PlaceView) → (stamp_of p.kept ≤ stamp_of (place_after_join p q).kept) × (stamp_of q.kept ≤ stamp_of (place_after_join p q).kept)
 merged_no_older p q = grind arith

@@ -1,9 +1,11 @@
-use Rattle.std.proofs.Common.{ap, rules, arith}
+use Rattle.std.proofs.Common.{ap, rules, arith, subst}
 use Rattle.atomic_table.specs.Table.{Me}
 use Rattle.arimaa_line.specs.declared.line.Line.{Line}
-use Rattle.arimaa_line.proofs.Truth.{says_truth}
-use Rattle.arimaa_table.specs.declared.views.Setting.{Setting}
-use Rattle.arimaa_table.specs.declared.views.PassView.{PassView}
+use Rattle.arimaa_line.specs.declared.bounds.Bounds.{Bounds}
+use Rattle.arimaa_line.specs.Lines.{IsLineOf, LosesNoBound}
+use Rattle.arimaa_line.proofs.Truth.{says_truth, loses_none-said}
+use Rattle.arimaa_table.specs.declared.view.Setting.{Setting}
+use Rattle.arimaa_table.specs.declared.view.PassView.{PassView}
 use Rattle.arimaa_table.proofs.CallSteps.{given_back, may_give_newer, only_here}
 use Rattle.arimaa_table.proofs.table.Table.put.Goals as goal
 
@@ -20,3 +22,21 @@ returns-else-stamp-next-clause-only_here c = let v : PassView = c.args.pass.now.
 pub give-requires-else-stamp-next-clause-table : goal.give-requires-else-stamp-next-clause-table
 give-requires-else-stamp-next-clause-table c = let k : Setting = c.args.self.now.words.shared.key in
     (search rules, may_give_newer k c.args.pass.now.seat.me.0 c.args.place _ _ _ _ c.requires.pass.1 c.requires.place c.in-Ok.ensures.took (omega (arith, c.encode.ensures.stamp)) (says_truth k.attacker k.barred.items _ _ c.encode.ensures.reads_back c.requires.known))
+
+pub returns-else-stamp-next-clause-answer : goal.returns-else-stamp-next-clause-answer
+returns-else-stamp-next-clause-answer c = (
+  search rules,
+  search rules,
+  record {
+    is_true = search rules;
+    no_older = search rules;
+    took = search rules;
+    kept = search rules;
+    once = search rules;
+    last = search rules;
+    after = search rules;
+    steps = search rules;
+    first = search rules;
+    bounds = subst (λ (x : Line). (j : Bounds) → IsLineOf x j → LosesNoBound c.args.seen.now j) c.encode.ensures.words (loses_none-said c.args.seen.now c.encode.result c.args.known.now c.encode.ensures.reads_back c.requires.keeps);
+  },
+)
