@@ -8,3 +8,4 @@ pub mod ReadingBack
 pub mod Numbers
 pub mod Reading
 pub mod SetupRule
+pub mod WordLaws

@@ -8,7 +8,7 @@ use Rattle.std.specs.Str.Parse.{AllDigits, digits_value, ParsesUnsigned}
 use Rattle.std.proofs.lemmas.Bool.{cases_eq, and_from, and_parts}
 use Rattle.std.proofs.lemmas.Bool.Decides.{Decides-ltb}
 use Rattle.std.proofs.lemmas.Slice.Eq.{bytes_eq-Decides}
-use Rattle.std.proofs.lemmas.Fmt.{decimal_is_IsNumeral, decimal_nonempty, first_decimal, decimal_digit, decimal-digits_value, digits_value-decimal, parse-decimal, IsAscii-decimal}
+use Rattle.std.proofs.lemmas.Fmt.{decimal_is_IsNumeral, decimal_nonempty, first_decimal, decimal_digit, decimal-digits_value, digits_value-decimal, decimal_injective, parse-decimal, IsAscii-decimal}
 use Rattle.std.proofs.lemmas.Str.{IsUtf8-from_ascii}
 use Rattle.std.proofs.lemmas.Str.Parse.{IsNumeralModel, numerals_by_value, tells_digits, digit_at, parse_plain}
 use Rattle.arimaa_notation.specs.Number.{HasPlainStart}
@@ -76,3 +76,10 @@ number_read bs None reads = by_test (nat_lt (digits_value 10 bs) (2 ^ 64) && byt
         let some : None ≡ Some (digits_value 10 bs) = (reads (digits_value 10 bs)).1 ((Decides-ltb (digits_value 10 bs) (2 ^ 64)).0 parts.0, sym ((bytes_eq-Decides (decimal (digits_value 10 bs)) bs).0 parts.1)) in
         some
     by_test false is = refl
+
+-- the decimal form of a number is read as it
+pub number_back : (n : ℕ) → n < 2 ^ 64 → number_of_text (decimal n) ≡ Some n
+number_back n small = sym (number_read (decimal n) (Some n) (λ m. (λ same. by_same m same, λ w. ap Some (decimal_injective n m small w.0 w.1))))
+  where
+    by_same : (m : ℕ) → Some n ≡ Some m → (m < 2 ^ 64) × (decimal n ≡ decimal m)
+    by_same m same = let e : n ≡ m = cc in (subst (λ k. k < 2 ^ 64) e small, ap decimal e)

@@ -192,6 +192,11 @@ steps_named (item ∷ next ∷ items) ns is = by_mark (mark_of next) refl (λ ms
         let P : List ℕ → Type 0 = λ x. AreSteps (item ∷ x ∷ items) ns in
         subst P (sym name.0) (one_more item (step_of item) (Some m) (steps_of items) items ns refl name.1 after is)
 
+-- a text without items is no turn
+pub no_turn : (bytes : List ℕ) → items_of bytes ≡ [] → turn_of_text bytes ≡ None
+unfolding turn_of_text
+no_turn bytes none = ap (λ items. if_turn (steps_of items)) none
+
 -- a text of a turn is read as it
 pub turn_back : (bytes : List ℕ) (t : List NotedStep) → IsTurnText bytes t → turn_of_text bytes ≡ Some t
 unfolding turn_of_text
