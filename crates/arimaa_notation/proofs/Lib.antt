@@ -5,3 +5,7 @@ pub mod GrammarLaws
 pub mod TurnReading
 pub mod SetupReading
 pub mod ReadingBack
+pub mod Numbers
+pub mod Reading
+pub mod SetupRule
+pub mod WordLaws

@@ -18,9 +18,9 @@ use Rattle.arimaa_notation.proofs.WrittenLaws.{letter_seen}
 use Rattle.arimaa_notation.proofs.ItemLaws.{items-item, items-blank, no_items}
 
 -- an item of bytes above the space
-record IsWord (item : List ℕ) : Type 0 where
-  filled : 0 < length item
-  seen : AllByRecursion (λ b. 32 < b) item
+pub record IsWord (item : List ℕ) : Type 0 where
+  pub filled : 0 < length item
+  pub seen : AllByRecursion (λ b. 32 < b) item
 
 not_blank : (b : ℕ) → 32 < b → is_blank b ≡ false
 not_blank b above = grind (arith, nat_tests)
@@ -33,7 +33,7 @@ solid_all : (item : List ℕ) → IsWord item → All (λ b. is_blank b ≡ fals
 solid_all item word = All-from_recursion (λ b. is_blank b ≡ false) item (solid item word.seen)
 
 -- items that are joined fall apart again
-items-joined : (items : List (List ℕ)) → AllByRecursion IsWord items → items_of (joined items) ≡ items
+pub items-joined : (items : List (List ℕ)) → AllByRecursion IsWord items → items_of (joined items) ≡ items
 items-joined [] all = no_items
 items-joined (x ∷ []) all = items-item x [] all.0.filled (solid_all x all.0) refl ∙ ap (λ y. x ∷ y) no_items
 items-joined (x ∷ y ∷ ys) all =
@@ -63,7 +63,7 @@ turn_words (n ∷ ns) = (step_word n.step, by_mark (turn_words ns) n.mark)
     by_mark rest None = rest
     by_mark rest (Some m) = (mark_word m, rest)
 
-entry_words : (es : List (ℕ × Piece)) → AllByRecursion IsWord (items_of_entries es)
+pub entry_words : (es : List (ℕ × Piece)) → AllByRecursion IsWord (items_of_entries es)
 entry_words [] = tt
 entry_words (e ∷ es) = (entry_word e, entry_words es)
 

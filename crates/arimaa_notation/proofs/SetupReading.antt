@@ -178,7 +178,7 @@ same_lineup s t es in_s in_t color to_s to_t =
     (IsPermutation-trans _ _ _ (IsPermutation-sym _ _ to_s) to_t) in
     λ i. record { color = color i; pairs = pairs i }
 
-rule_of_lineup : (s : Lineup) (color : Color) (es : List Entry) → IsLineup s → s.color ≡ color → IsPermutation es s.pairs → IsSetup color es
+pub rule_of_lineup : (s : Lineup) (color : Color) (es : List Entry) → IsLineup s → s.color ≡ color → IsPermutation es s.pairs → IsSetup color es
 rule_of_lineup s color es h side same =
     let P : Color → Type 0 = λ c. IsSetup c es in
     subst P side (setup_from_order s.color es s.pairs same h.squares h.pieces)

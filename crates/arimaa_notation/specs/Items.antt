@@ -1,6 +1,6 @@
 -- The items of a text, which blanks separate.
-use Rattle.std.specs.Prelude.{◌≡◌, ℕ, ◌==◌, ◌<◌, Bool, true, false, ◌||◌, List, [], ◌∷◌, ◌++◌, length, filter, All}
-use Rattle.std.specs.List.{slice_split, slice_index_or}
+use Rattle.std.specs.Prelude.{◌≡◌, ℕ, ◌==◌, ◌<◌, Bool, true, false, ◌||◌, List, [], ◌∷◌, ◌++◌, ◌-◌, length, take, drop, filter, All}
+use Rattle.std.specs.List.{slice_split, slice_index_or, prefix_len, suffix_len, position_or_len}
 
 -- a space or a tab
 abbrev pub is_blank : ℕ → Bool
@@ -23,3 +23,31 @@ pub record IsFirstItem (bytes item rest : List ℕ) : Type 0 where
   pub filled : 0 < length item
   pub solid : All (λ b. is_blank b ≡ false) item
   pub ended : is_blank (slice_index_or rest 0 32) ≡ true
+
+-- a text without the blanks at its front
+abbrev pub without_first_blanks : List ℕ → List ℕ
+without_first_blanks bytes = drop (prefix_len is_blank bytes) bytes
+
+-- a text without the blanks at its end
+abbrev pub without_last_blanks : List ℕ → List ℕ
+without_last_blanks bytes = take (length bytes - suffix_len is_blank bytes) bytes
+
+-- a text without the blanks at its ends
+abbrev pub trimmed : List ℕ → List ℕ
+trimmed bytes = without_last_blanks (without_first_blanks bytes)
+
+-- what stands before the first blank
+abbrev pub before_blank : List ℕ → List ℕ
+before_blank text = take (position_or_len is_blank text) text
+
+-- the first blank and what follows it
+abbrev pub from_blank : List ℕ → List ℕ
+from_blank text = drop (position_or_len is_blank text) text
+
+-- the first item of a text, empty where the text has none
+abbrev pub word_of : List ℕ → List ℕ
+word_of bytes = before_blank (without_first_blanks bytes)
+
+-- what stands after the first item
+abbrev pub after_word : List ℕ → List ℕ
+after_word bytes = from_blank (without_first_blanks bytes)

@@ -5,13 +5,15 @@ mod fault;
 mod items;
 mod laws;
 mod letters;
+mod number;
 mod setup;
 mod turn;
 mod written;
 
 pub use fault::NoteFault;
-pub use items::first_item;
+pub use items::{first_item, trim};
 pub use laws::{setups_apart, turns_apart};
+pub use number::read_number;
 pub use setup::read_setup;
 pub use turn::read_turn;
 pub use written::{setup_text, turn_text};

@@ -3,6 +3,8 @@ ghost use Rattle.std.specs.Prelude.{◌≡◌, ◌≢◌, ℕ, ◌↔◌, length
 ghost use Rattle.arimaa_board.specs.Setup.{Lineup};
 ghost use Rattle.arimaa_notation.specs.Items.{items_of};
 ghost use Rattle.arimaa_notation.specs.Grammar.{IsSetupText, IsSetupReading, IsFirstBadEntry, AreNoSetup};
+ghost use Rattle.std.specs.Result.{result_ok};
+ghost use Rattle.arimaa_notation.specs.Readers.{setup_of_text};
 
 use crate::fault::NoteFault;
 use crate::items::first_item;
@@ -20,6 +22,7 @@ pub fn read_setup(bytes: &[u8], color: Color) -> Result<Setup, NoteFault>
     ensures token { (n : ℕ) → (result ≡ Err (NoteFault.Token n)) ↔ IsFirstBadEntry (items_of bytes.now) n }
     ensures no_setup { (result ≡ Err NoteFault.Setup) ↔ AreNoSetup (items_of bytes.now) color }
     ensures no_steps { result ≢ Err NoteFault.Steps }
+    ensures value { result_ok result ≡ setup_of_text color bytes.now }
 {
     reading(bytes, color)
 }

@@ -5,6 +5,8 @@ ghost use Rattle.arimaa_board.specs.declared.turn.NotedStep.{NotedStep as NotedS
 ghost use Rattle.arimaa_notation.specs.Items.{items_of};
 ghost use Rattle.arimaa_notation.specs.Written.{text_of_mark, items_of_mark};
 ghost use Rattle.arimaa_notation.specs.Grammar.{IsTurnText, IsTurnReading, IsNamedItem, AreTooManySteps};
+ghost use Rattle.std.specs.Result.{result_ok};
+ghost use Rattle.arimaa_notation.specs.Readers.{turn_of_text};
 
 use crate::fault::NoteFault;
 use crate::items::first_item;
@@ -23,6 +25,7 @@ pub fn read_turn(bytes: &[u8]) -> Result<Noted, NoteFault>
     ensures token { (n : ℕ) → (result ≡ Err (NoteFault.Token n)) ↔ IsNamedItem (items_of bytes.now) n }
     ensures steps { (result ≡ Err NoteFault.Steps) ↔ AreTooManySteps (items_of bytes.now) }
     ensures no_setup { result ≢ Err NoteFault.Setup }
+    ensures value { result_ok result ≡ turn_of_text bytes.now }
 {
     reading(bytes)
 }

@@ -7,6 +7,7 @@ use Rattle.arimaa_notation.specs.declared.fault.NoteFault.TheVariants.{Token, St
 use Rattle.arimaa_notation.specs.Items.{items_of}
 use Rattle.arimaa_notation.specs.Grammar.{IsSetupReading, IsSetupText}
 use Rattle.arimaa_notation.proofs.SetupReading.{one_reading}
+use Rattle.arimaa_notation.proofs.SetupRule.{setup_read}
 use Rattle.arimaa_notation.proofs.setup.read_setup.Goals as goal
 
 -- the answer is this one exactly where the items are read as it
@@ -26,3 +27,6 @@ returns-clause-no_setup c = exactly (items_of c.args.bytes.now) c.args.color c.r
 
 pub returns-clause-no_steps : goal.returns-clause-no_steps
 returns-clause-no_steps c = λ e. (exactly (items_of c.args.bytes.now) c.args.color c.reading.result (Err Steps) c.reading.ensures).0 e
+
+pub returns-clause-value : goal.returns-clause-value
+returns-clause-value c = setup_read c.args.bytes.now c.args.color _ (returns-clause-setup c)

@@ -6,6 +6,7 @@ use Rattle.arimaa_notation.specs.declared.fault.NoteFault.TheVariants.{Token, St
 use Rattle.arimaa_notation.specs.Items.{items_of}
 use Rattle.arimaa_notation.specs.Grammar.{IsTurnReading, IsTurnText}
 use Rattle.arimaa_notation.proofs.TurnReading.{one_reading}
+use Rattle.arimaa_notation.proofs.Reading.{turn_read}
 use Rattle.arimaa_notation.proofs.turn.read_turn.Goals as goal
 
 -- the answer is this one exactly where the items are read as it
@@ -25,3 +26,6 @@ returns-clause-steps c = exactly (items_of c.args.bytes.now) c.reading.result (E
 
 pub returns-clause-no_setup : goal.returns-clause-no_setup
 returns-clause-no_setup c = λ e. (exactly (items_of c.args.bytes.now) c.reading.result (Err Setup) c.reading.ensures).0 e
+
+pub returns-clause-value : goal.returns-clause-value
+returns-clause-value c = turn_read c.args.bytes.now _ (returns-clause-turn c)

@@ -1,0 +1,2 @@
+pub mod CommandsBack
+pub mod AnswersBack
