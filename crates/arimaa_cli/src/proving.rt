@@ -108,7 +108,7 @@ fn answer_at(
     ensures { IfOk result (λ answer. (verdict : Judgement) × IsVerdict asked.now.attacker (barred_by history.now) asked.now.depth p.now verdict
         × IsToldBy verdict answer.status answer.text.items) }
 {
-    let verdict = Verdict::of(p, asked.attacker, asked.depth, history.barred());
+    let verdict = Verdict::of(p, asked.attacker, asked.depth, history.barred().as_slice());
     told(alloc, &verdict)
 }
 

@@ -273,7 +273,7 @@ fn plays_turns(rt: HostRuntime) -> Result<(), Fail> {
             }
         }
         assert_eq!(rt; game.history().as_slice().len(), row.positions, "{number}");
-        assert_eq!(rt; game.history().barred().len(), row.barred, "{number}");
+        assert_eq!(rt; game.history().barred().as_slice().len(), row.barred, "{number}");
         assert_eq!(rt; game.history().last(), Some(game.now()), "{number}");
     }
     Ok(())
