@@ -92,10 +92,10 @@ module _ (k : Setting) (i slots id : ℕ) (inside : i < k.lines) (m : Me Line Pa
   pub may_give : (c : ℕ) (x : Line) (m' : Me Line PassView) → MayGive k i c x m → m' ≡ (m.0, (i, x) ∷ rest m.1) → Allows (Ruled k) slots id m' i (λ _. c + 2) (λ _. TellsGiving (step slots i (c + 2) 0 none) m' (c + 2))
   may_give c x m' may is = let has : m' ≡ (m.0, (i, x) ∷ []) = is ∙ ap (λ (xs : List (ℕ × Line)). (m.0, (i, x) ∷ rest xs)) may.hand in subst (λ (y : Me Line PassView). Allows (Ruled k) slots id y i (λ _. c + 2) (λ _. TellsGiving (step slots i (c + 2) 0 none) y (c + 2))) (sym has)
       (let up = may.count in gives_back k slots id i (m.0, (i, x) ∷ []) x (c + 2) may.live inside refl may.holds (omega (arith, up))
-      (⊎_elim (λ (e : x ≡ (at i m.0).kept). inl e) (λ (t : (stamp_of (at i m.0).kept < stamp_of x) × IsTrueLine k.attacker k.barred.items x). inr (t.0, subst (λ (z : Color × List Position). IsTrueLine z.0 z.1 x) (λ j. (sym may.live.1 j, sym may.live.2 j)) t.1)) may.good))
+      (⊎_elim (λ (e : x ≡ (at i m.0).kept). inl e) (λ (t : (stamp_of (at i m.0).kept < stamp_of x) × IsTrueLine k.attacker k.barred x). inr (t.0, subst (λ (z : Color × List Position). IsTrueLine z.0 z.1 x) (λ j. (sym may.live.1 j, sym may.live.2 j)) t.1)) may.good))
 
 -- a newer true line may be given back in place of the one that was taken
-pub may_give_newer : (k : Setting) (v : PassView) (i c : ℕ) (l x : Line) (m : Me Line PassView) → IsLive k v → i < k.lines → IsOut v i c l m → stamp_of l < stamp_of x → IsTrueLine k.attacker k.barred.items x → MayGive k i c x m
+pub may_give_newer : (k : Setting) (v : PassView) (i c : ℕ) (l x : Line) (m : Me Line PassView) → IsLive k v → i < k.lines → IsOut v i c l m → stamp_of l < stamp_of x → IsTrueLine k.attacker k.barred x → MayGive k i c x m
 may_give_newer k v i c l x m live inside out newer right = let long : length v.places ≡ k.lines = live.3 in let p : PlaceView = place_after_taking (at i v) c l in
     let here : at i m.0 ≡ p = ap (λ (y : Me Line PassView). at i y.0) out.me ∙ at_changed v i p (omega arith) in
     record {

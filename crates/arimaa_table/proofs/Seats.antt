@@ -56,7 +56,7 @@ module _ (k : Setting) where
         each_pass = λ j w e. ⊎_elim (λ (t : get_elem? s.views j ≡ some w). r.each_pass j w t) (λ (t : u ≡ w). subst (Passes (context_of k)) t (live_passes k u (live_untaken v live))) (at_snoc s.views u w j e);
         each_place = λ i l. let p : PlaceView = at i v in let here = r.each_place i l in let o = here.knows id p (at_map (at i) s.views id v at_id) in
             moved_place k _ _ _ _ (map (at i) s.views ++ place_without_takings p ∷ []) _ refl refl (ap (λ (q : PlaceView). map (at i) s.views ++ q ∷ []) (sym (at_untaken v i)) ∙ sym (map-append (at i) s.views (u ∷ [])))
-            (arrives k.attacker k.barred.items (get_or s.words i 0) (get_elem? s.homes i) (map (at i) s.views) (place_without_takings p) here
+            (arrives k.attacker k.barred (get_or s.words i 0) (get_elem? s.homes i) (map (at i) s.views) (place_without_takings p) here
             record { kept = o.kept; seen = o.seen; held = λ h. absurd (clash p.holds h (frees i)); free = λ _. inl refl; none_taken = λ _. refl } (frees i) refl);
       }
     where
@@ -70,18 +70,18 @@ module _ (k : Setting) where
     each_pass = passes_set k vs other spent_view record { live = λ e. absurd (clash true refl e); spent = λ _. refl } (passes_set k s.views id b (live_passes k b (live_joined v w l m)) r.each_pass);
     each_place = λ i near. let p : PlaceView = at i v in let q : PlaceView = at i w in let e = seen_at s.views i id b (place_after_join p q) (at_joined v w i (l.3 ∙ sym m.3)) in
         moved_place k _ _ _ _ (set (set (map (at i) s.views) id (place_after_join p q)) other untouched_place) _ refl refl (sym (seen_at vs i other spent_view untouched_place refl ∙ ap (λ (ps : List PlaceView). set ps other untouched_place) e))
-        (joins k.attacker k.barred.items (get_or s.words i 0) (get_elem? s.homes i) (map (at i) s.views) id other p q (r.each_place i near) (at_map (at i) s.views id v at_id) apart
+        (joins k.attacker k.barred (get_or s.words i 0) (get_elem? s.homes i) (map (at i) s.views) id other p q (r.each_place i near) (at_map (at i) s.views id v at_id) apart
         (ap (λ (ps : List PlaceView). get_elem? ps other) (sym e) ∙ at_map (at i) vs other w at_other) (v_none i) (w_none i));
   }
     where
       clash : (b : Bool) → b ≡ true → b ≡ false → ⊥
       clash b x y = cc
 
-  first_place : Place k.attacker k.barred.items 0 (some (some empty_line)) (untouched_place ∷ [])
+  first_place : Place k.attacker k.barred 0 (some (some empty_line)) (untouched_place ∷ [])
   first_place = record {
     line = empty_line;
     holder = 0;
-    is_true = empty_is_true k.attacker k.barred.items;
+    is_true = empty_is_true k.attacker k.barred;
     at_home = λ _. refl;
     away = λ e. absurd (omega arith);
     holds = one_only;
@@ -101,7 +101,7 @@ module _ (k : Setting) where
       one_only j p e h = absurd (clash p.holds h (ap (λ (q : PlaceView). q.holds) (sym (only_fresh j p e))))
 
       knows_first : (j : ℕ) (p : PlaceView) → get_elem? (untouched_place ∷ []) j ≡ some p → Knows empty_line 0 p
-      knows_first j p e = subst (Knows empty_line 0) (only_fresh j p e) (knows_nothing k.attacker k.barred.items empty_line 0 (empty_is_true k.attacker k.barred.items))
+      knows_first j p e = subst (Knows empty_line 0) (only_fresh j p e) (knows_nothing k.attacker k.barred empty_line 0 (empty_is_true k.attacker k.barred))
 
   homes_first : (n i : ℕ) → i < n → get_elem? (map some (replicate n empty_line)) i ≡ some (some empty_line)
   homes_first zero i l = absurd (omega arith)

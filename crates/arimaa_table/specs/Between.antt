@@ -71,7 +71,7 @@ pub record IsBusy (v : PassView) (i c : ℕ) (m : Me Line PassView) : Type 0 whe
 -- what may be given back in place of a line: itself, or a newer true one
 abbrev pub IsGoodNext : Setting → Line → Line → Type 0
 IsGoodNext k old new =
-    (new ≡ old) ⊎ ((stamp_of old < stamp_of new) × IsTrueLine k.attacker k.barred.items new)
+    (new ≡ old) ⊎ ((stamp_of old < stamp_of new) × IsTrueLine k.attacker k.barred new)
 
 -- the pass holds the place i at the even count c, and may give the line x back
 pub record MayGive (k : Setting) (i c : ℕ) (x : Line) (m : Me Line PassView) : Type 0 where

@@ -48,7 +48,7 @@ IsPassOf t p = IsSeatOf t p.seat
 
 -- a true line of the table's context
 abbrev pub IsTrueIn : Table → Line → Type 0
-IsTrueIn t l = IsTrueLine (setting_of t).attacker (setting_of t).barred.items l
+IsTrueIn t l = IsTrueLine (setting_of t).attacker (setting_of t).barred l
 
 -- in this call the pass took the line l of a place, and left the line x there
 pub record TookLine (t : Table) (old new : PlaceView) (l x : Line) : Type 0 where
@@ -84,7 +84,7 @@ LookedAt t old new i (looked.Busy c) = WasBusy (place_view old i) (place_view ne
 
 -- the bounds are right in the table's context
 abbrev pub IsTrueOf : Table → Bounds → Type 0
-IsTrueOf t k = AreTrueBounds (setting_of t).attacker (setting_of t).barred.items k
+IsTrueOf t k = AreTrueBounds (setting_of t).attacker (setting_of t).barred k
 
 -- what a put at the place i answers
 abbrev pub PutAt : Table → TablePass → TablePass → ℕ → Line → Bounds → Put → Type 0

@@ -113,7 +113,7 @@ pub record Context : Type 0 where
 
 -- the context of a table
 abbrev pub context_of : Setting → Context
-context_of k = record { attacker = k.attacker; barred = k.barred.items; lines = k.lines }
+context_of k = record { attacker = k.attacker; barred = k.barred; lines = k.lines }
 
 -- the context that a pass was given
 abbrev pub context : PassView → Context
@@ -148,7 +148,7 @@ abbrev pub first_view : Setting → PassView
 first_view k = record {
   spent = false;
   attacker = k.attacker;
-  barred = k.barred.items;
+  barred = k.barred;
   places = replicate k.lines untouched_place;
 }
 
@@ -156,7 +156,7 @@ first_view k = record {
 abbrev pub IsLive : Setting → PassView → Type 0
 IsLive k v =
     (v.spent ≡ false) × (v.attacker ≡ k.attacker)
-    × (v.barred ≡ k.barred.items) × (length v.places ≡ k.lines)
+    × (v.barred ≡ k.barred) × (length v.places ≡ k.lines)
 
 -- the pass holds no place
 abbrev pub HoldsNone : PassView → Type 0

@@ -21,7 +21,7 @@ returns-else-stamp-next-clause-only_here c = let v : PassView = c.args.pass.now.
 
 pub give-requires-else-stamp-next-clause-table : goal.give-requires-else-stamp-next-clause-table
 give-requires-else-stamp-next-clause-table c = let k : Setting = c.args.self.now.words.shared.key in
-    (search rules, may_give_newer k c.args.pass.now.seat.me.0 c.args.place _ _ _ _ c.requires.pass.1 c.requires.place c.in-Ok.ensures.took (omega (arith, c.encode.ensures.stamp)) (says_truth k.attacker k.barred.items _ _ c.encode.ensures.reads_back c.requires.known))
+    (search rules, may_give_newer k c.args.pass.now.seat.me.0 c.args.place _ _ _ _ c.requires.pass.1 c.requires.place c.in-Ok.ensures.took (omega (arith, c.encode.ensures.stamp)) (says_truth k.attacker k.barred _ _ c.encode.ensures.reads_back c.requires.known))
 
 pub returns-else-stamp-next-clause-answer : goal.returns-else-stamp-next-clause-answer
 returns-else-stamp-next-clause-answer c = (

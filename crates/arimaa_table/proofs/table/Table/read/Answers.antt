@@ -9,7 +9,7 @@ if_some P None all = tt
 if_some P (Some k) all = all k refl
 
 pub read-requires : goal.read-requires
-read-requires c = let k : Setting = c.args.self.now.words.shared.key in true_is_line k.attacker k.barred.items c.args.line.now c.requires
+read-requires c = let k : Setting = c.args.self.now.words.shared.key in true_is_line k.attacker k.barred c.args.line.now c.requires
 
 pub returns-clause-right : goal.returns-clause-right
-returns-clause-right c = let k : Setting = c.args.self.now.words.shared.key in if_some _ c.read.result (λ b e. truth_said k.attacker k.barred.items c.args.line.now b c.requires ((c.read.ensures b).0 e).0)
+returns-clause-right c = let k : Setting = c.args.self.now.words.shared.key in if_some _ c.read.result (λ b e. truth_said k.attacker k.barred c.args.line.now b c.requires ((c.read.ensures b).0 e).0)
