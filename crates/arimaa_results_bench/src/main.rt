@@ -1,12 +1,10 @@
-//! Measures lists of results at the last position of the record that is read from standard input: `list` by layers,
-//! and `walk` the walk over all lists of steps that finds nothing.
+//! Measures lists of results at a position, given by the side to move and a board text: `list` by layers, and `walk` the
+//! walk over all lists of steps that finds nothing.
 #![tactic(auto)]
 
 ghost use Rattle.std.specs.Prelude.{◌≡◌, ◌<◌, length, false};
 
-use arimaa_board::Position;
-use arimaa_judge::{Judged, judge};
-use arimaa_outside::{ReadAll, StdSource, read_all};
+use arimaa_board::{Color, Position, read_board};
 use arimaa_region::Region;
 use arimaa_results::{Wanted, first_turn_where, results};
 use std::rt::Runtime;
@@ -39,12 +37,16 @@ fn list(p: &Position, region: &mut Region) -> u32
     }
 }
 
-// How many are listed, and the least time of some lists.
-fn time_lists(rt: &(impl Runtime + AllocGlobal), p: &Position) -> io::Result<(u32, Duration)> {
+// How many results are listed, and the least time of some lists.
+fn time_lists(
+    rt: &(impl Runtime + AllocGlobal),
+    p: &Position,
+    rounds: u32,
+) -> io::Result<(u32, Duration)> {
     let mut region = Region::with_work(rt.alloc(), 262_144, 32_768)?;
     let mut least = Duration::MAX;
     let mut size = 0;
-    for _ in 0..20 {
+    for _ in 0..rounds {
         let start = Instant::now(rt)?;
         size = list(p, &mut region);
         least = least.min(start.elapsed(rt)?);
@@ -52,40 +54,34 @@ fn time_lists(rt: &(impl Runtime + AllocGlobal), p: &Position) -> io::Result<(u3
     Ok((size, least))
 }
 
-// The time of a walk.
-fn time_walk(rt: &(impl Runtime + AllocGlobal), p: &Position) -> io::Result<Duration> {
-    let start = Instant::now(rt)?;
-    let _found = first_turn_where(p, &Nothing);
-    start.elapsed(rt)
-}
-
 fn measure(rt: &(impl Runtime + AllocGlobal), p: &Position, word: &str) -> io::Result<()> {
     match word {
         "list" => {
-            let (size, least) = time_lists(rt, p)?;
+            let (size, least) = time_lists(rt, p, 50)?;
             let nanoseconds = least.as_nanos();
             rt.println(format_args!("places {size} nanoseconds {nanoseconds}"))
         }
         "walk" => {
-            let nanoseconds = time_walk(rt, p)?.as_nanos();
-            rt.println(format_args!("nanoseconds {nanoseconds}"))
+            let start = Instant::now(rt)?;
+            let found = first_turn_where(p, &Nothing).is_some();
+            let nanoseconds = start.elapsed(rt)?.as_nanos();
+            rt.println(format_args!("found {found} nanoseconds {nanoseconds}"))
         }
-        _ => rt.println(format_args!("usage: arimaa_results_bench list|walk < RECORD")),
+        _ => rt.println(format_args!("usage: arimaa_results_bench list|walk gold|silver BOARD")),
     }
 }
 
 fn main(rt: HostRuntime) -> io::Result<()> {
     let word = env::args(&rt)?.nth(1);
+    let side = env::args(&rt)?.nth(2);
+    let text = env::args(&rt)?.nth(3);
     let word = word.as_ref().map_or("", |word| word.as_str());
-    let mut input = StdSource::new(rt.reader());
-    let Ok(bytes) = read_all(rt.alloc(), &mut input) else {
-        return println!(rt; "the record cannot be read");
+    let side = match side.as_ref().map_or("", |side| side.as_str()) {
+        "silver" => Color::Silver,
+        _ => Color::Gold,
     };
-    match judge(rt.alloc(), &bytes)? {
-        Judged::Bad { line, .. } => println!(rt; "line {line} of the record is bad"),
-        Judged::Lawful { history, .. } => match history.last() {
-            None => println!(rt; "the record has no position"),
-            Some(p) => measure(&rt, &p, word),
-        },
+    match read_board(text.as_ref().map_or("", |text| text.as_str()).as_bytes()) {
+        Err(_) => println!(rt; "usage: arimaa_results_bench list|walk gold|silver BOARD"),
+        Ok(board) => measure(&rt, &Position { board, side }, word),
     }
 }
