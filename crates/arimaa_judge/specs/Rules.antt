@@ -75,7 +75,10 @@ rule_of_game_fault refusing.Memory = None
 
 -- a line has to have the label that is due, and may say no more than a label once the rules have ended the game
 abbrev pub rule_of_label : RecordState → Label → Option Rule
-rule_of_label s label = if not (same_label s.due label) then Some rule.Number else if has_ended s then Some rule.Over else None
+rule_of_label s label =
+    if not (same_label s.due label) then Some rule.Number
+    else if has_ended s then Some rule.Over
+    else None
 
 -- a start line is the first line with content; it may have any label
 abbrev pub rule_of_start : RecordState → Option Rule
@@ -87,7 +90,8 @@ rule_of_setup s label = option_or (rule_of_label s label) (if is_playing s then 
 
 -- a turn may not stand where a setup is due, and it keeps the rules of the game
 abbrev pub rule_of_turn_line : RecordState → Label → List NotedStep → Option Rule
-rule_of_turn_line s label noted = option_or (rule_of_label s label) (if is_playing s then turn_rule s.history noted else Some rule.Form)
+rule_of_turn_line s label noted =
+    option_or (rule_of_label s label) (if is_playing s then turn_rule s.history noted else Some rule.Form)
 
 -- a label alone has to be the one that is due
 abbrev pub rule_of_bare : RecordState → Label → Option Rule
@@ -107,7 +111,8 @@ abbrev pub rule_of_line_fault : RecordState → LineFault → Rule
 rule_of_line_fault s reading.Text = rule.Text
 rule_of_line_fault s (reading.Steps _ _) = rule.Steps
 rule_of_line_fault s (reading.BadStart _ _ _) = if has_begun s then rule.Form else rule.Start
-rule_of_line_fault s (reading.BadSetup number side) = unwrap_or (rule_of_label s (label_of number side)) (if is_playing s then rule.Form else rule.Setup)
+rule_of_line_fault s (reading.BadSetup number side) =
+    unwrap_or (rule_of_label s (label_of number side)) (if is_playing s then rule.Form else rule.Setup)
 
 -- after a closing line or a label alone no line with content may follow
 abbrev pub rule_after_closing : RecordLine → Option Rule

@@ -9,7 +9,7 @@ mod judging;
 mod laws;
 mod record_state;
 mod rule;
-mod texts;
+mod text;
 
 pub use arimaa_history::History;
 pub use arimaa_model::Ending;
@@ -17,4 +17,4 @@ pub use arimaa_record::Label;
 pub use judging::{Judged, judge};
 pub use laws::{bad_lines_are_there, judgements_agree};
 pub use rule::Rule;
-pub use texts::{bad_text, lawful_text, push_state};
+pub use text::{bad_text, lawful_text, push_state};

@@ -88,7 +88,8 @@ fn play_turn(game: &mut Game, noted: &Noted) -> Result<Option<Rule>, AllocError>
     requires under_way { IsUnderWay game.old }
     requires running { ending game.old.history ≡ None }
     ensures rule { IfOk result (λ broken. broken ≡ turn_rule game.old.history noted.now) }
-    ensures history { IfOk result (λ broken. game.new.history ≡ (if is_some broken then game.old.history else with_turn game.old.history (noted_turn noted.now))) }
+    ensures history { IfOk result (λ broken. game.new.history ≡ (if is_some broken then game.old.history
+        else with_turn game.old.history (noted_turn noted.now))) }
     ensures under_way { IsUnderWay game.new }
 {
     let _present = game.now();
@@ -230,7 +231,8 @@ impl RecordState {
         board: Board,
     ) -> Result<Option<Rule>, AllocError>
         requires { IsFit board }
-        ensures { IfOk result (λ broken. Accepts self.old (rule_of_start self.old) (with_start self.old label board) broken self.new) }
+        ensures { IfOk result (λ broken. Accepts self.old (rule_of_start self.old)
+            (with_start self.old label board) broken self.new) }
     {
         match &self.stage {
             Stage::Begin => (),
@@ -250,7 +252,8 @@ impl RecordState {
         setup: Setup,
     ) -> Result<Option<Rule>, AllocError>
         requires { setup.color ≡ label.side }
-        ensures { IfOk result (λ broken. Accepts self.old (rule_of_setup self.old label) (with_setup self.old setup) broken self.new) }
+        ensures { IfOk result (λ broken. Accepts self.old (rule_of_setup self.old label)
+            (with_setup self.old setup) broken self.new) }
     {
         if let Some(rule) = self.rule_of_label(label) {
             return Ok(Some(rule));
@@ -268,7 +271,8 @@ impl RecordState {
     // Plays a turn, unless the line breaks a rule.
     fn play(&mut self, label: Label, noted: &Noted) -> Result<Option<Rule>, AllocError>
         requires room { self.old.turns + 1 < 2 ^ 64 }
-        ensures { IfOk result (λ broken. Accepts self.old (rule_of_turn_line self.old label noted.now) (with_played self.old (noted_turn noted.now)) broken self.new) }
+        ensures { IfOk result (λ broken. Accepts self.old (rule_of_turn_line self.old label noted.now)
+            (with_played self.old (noted_turn noted.now)) broken self.new) }
     {
         if let Some(rule) = self.rule_of_label(label) {
             return Ok(Some(rule));
@@ -288,7 +292,8 @@ impl RecordState {
 
     // Closes the record by a word, unless the line breaks a rule: the side that is due has lost.
     fn close(&mut self, label: Label, word: Word) -> Option<Rule>
-        ensures { Accepts self.old (rule_of_label self.old label) (with_closing self.old word) result self.new }
+        ensures { Accepts self.old (rule_of_label self.old label)
+            (with_closing self.old word) result self.new }
     {
         let broken = self.rule_of_label(label);
         if broken.is_none() {
@@ -300,7 +305,8 @@ impl RecordState {
 
     // Closes the record without a word, unless the label is not the one due.
     fn break_off(&mut self, label: Label) -> Option<Rule>
-        ensures { Accepts self.old (rule_of_bare self.old label) (with_bare self.old) result self.new }
+        ensures { Accepts self.old (rule_of_bare self.old label)
+            (with_bare self.old) result self.new }
     {
         if !same_label(self.due, label) {
             return Some(Rule::Number);
@@ -313,7 +319,8 @@ impl RecordState {
     fn take_open(&mut self, alloc: Global, line: RecordLine) -> Result<Option<Rule>, AllocError>
         requires granted { IsGranted line }
         requires room { self.old.turns + 1 < 2 ^ 64 }
-        ensures { IfOk result (λ broken. Accepts self.old (rule_of_line self.old line) (after_line self.old line) broken self.new) }
+        ensures { IfOk result (λ broken. Accepts self.old (rule_of_line self.old line)
+            (after_line self.old line) broken self.new) }
     {
         match line {
             RecordLine::Blank => Ok(None),
@@ -343,7 +350,8 @@ impl RecordState {
     fn take(&mut self, alloc: Global, line: RecordLine) -> Result<Option<Rule>, AllocError>
         requires granted { IsGranted line }
         requires room { self.old.turns + 1 < 2 ^ 64 }
-        ensures { IfOk result (λ broken. Accepts self.old (rule_at self.old (Ok line)) (after_line self.old line) broken self.new) }
+        ensures { IfOk result (λ broken. Accepts self.old (rule_at self.old (Ok line))
+            (after_line self.old line) broken self.new) }
     {
         if self.closed {
             Ok(rule_after_closing(&line))
