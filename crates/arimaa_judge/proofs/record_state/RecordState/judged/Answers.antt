@@ -1,5 +1,5 @@
 use Rattle.arimaa_judge.proofs.Accepting.{ended_by}
-use Rattle.arimaa_judge.proofs.standing.Standing.judged.Goals as goal
+use Rattle.arimaa_judge.proofs.record_state.RecordState.judged.Goals as goal
 
 pub returns-clause-ended : goal.returns-clause-ended
 returns-clause-ended c =
