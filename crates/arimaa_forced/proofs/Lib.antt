@@ -1,0 +1,8 @@
+pub mod Deeper
+pub mod Looks
+pub mod Trees
+pub mod Plays
+pub mod OwnStrategies
+pub mod NotedEntries
+pub mod Meetings
+pub mod Midst

@@ -1,0 +1,9 @@
+pub mod Search
+pub mod Needs
+pub mod SearchLaws
+pub mod CostLaws
+pub mod Acceptance
+pub mod Play
+pub mod Entries
+pub mod Meetings
+pub mod StrategyLaws

@@ -1,0 +1,7 @@
+pub mod HandedOn
+pub mod Firsts
+pub mod RankBounds
+pub mod Levels
+pub mod EntryLaws
+pub mod NeededQuestions
+pub mod VerdictLaws

@@ -1,0 +1,53 @@
+-- What a look through the next positions answers.
+use Rattle.std.proofs.Common.{◌≡◌, ℕ, suc, ◌+◌, List, [], ◌∷◌, length, None, Bool, true, false, cond, not, Ok, Err, Result, refl, sym, arith}
+use mathlib.Core.Bool.{beq}
+use Rattle.arimaa_board.specs.declared.piece.Color.{Color}
+use Rattle.arimaa_board.specs.Board.{same_color}
+use Rattle.arimaa_board.specs.declared.position.Position.{Position}
+use Rattle.arimaa_model.specs.Decided.{decided}
+use Rattle.arimaa_model.specs.Results.{next}
+use Rattle.arimaa_forced.specs.Search.{is_decisive, cost}
+use Rattle.arimaa_forced.proofs.Midst.{Midst, midst-decisive, midst-end, midst-paid, midst-all_paid, midst-dear, midst-wide}
+use Rattle.arimaa_search.specs.declared.stop.Stop.{Stop}
+use Rattle.arimaa_search.specs.declared.stop.Stop.TheVariants as stop
+use Rattle.arimaa_search.specs.Asking.{IsPaid, Answered}
+
+module _ (a : Color) (barred : List Position) (n : ℕ) (p : Position) (room live : ℕ) where
+  -- the first of the rest is decisive
+  pub decisive-answer : (q : Position) (rest : List Position) (began left after : ℕ) → Midst a barred n p (q ∷ rest) began left → decided p ≡ None → IsPaid left after (cost a barred n q)
+      → is_decisive a barred n p q ≡ true → Answered a barred (suc n) p room live (began + 1) after (Ok (same_color p.side a))
+  decisive-answer q rest began left after m undecided paid ends =
+      let falls = m.falls in
+      let whole = midst-paid a barred n p q rest began left after m undecided paid.most in
+      let here = paid.falls in
+      (sym (midst-decisive a barred n p q rest began left m undecided ends), record { falls = omega arith; most = omega arith })
+
+  -- none was
+  pub end-answer : (began left : ℕ) → Midst a barred n p [] began left → decided p ≡ None → Answered a barred (suc n) p room live (began + 1) left (Ok (not (same_color p.side a)))
+  end-answer began left m undecided =
+      let falls = m.falls in
+      let whole = midst-all_paid a barred n p began left m undecided in
+      (sym (midst-end a barred n p began left m undecided), record { falls = omega arith; most = omega arith })
+
+  -- the question on the first of the rest stopped
+  pub stopped-answer : (r : Result Bool Stop) (stopped : Stop) (space held : ℕ) (q : Position) (rest : List Position) (began left after : ℕ) → Midst a barred n p (q ∷ rest) began left → decided p ≡ None
+      → r ≡ Err stopped → space ≡ room → held ≡ live + length (next barred p) → Answered a barred n q space held left after r → Answered a barred (suc n) p room live (began + 1) after r
+  stopped-answer (Ok v) stopped space held q rest began left after m undecided is all full answer = absurd (cc)
+  stopped-answer (Err stop.Spent) stopped space held q rest began left after m undecided is all full answer =
+      let dear = answer.0 in
+      let whole = midst-dear a barred n p q rest began left m undecided (omega arith) in
+      (omega arith, answer.1)
+  stopped-answer (Err stop.Crowded) stopped space held q rest began left after m undecided is all full answer =
+      let falls = m.falls in
+      let paid = answer.1 in
+      let whole = midst-paid a barred n p q rest began left after m undecided paid.most in
+      let most = midst-wide a barred n p q rest began left m undecided in
+      let over = answer.0 in
+      (omega arith, record { falls = omega arith; most = omega arith })
+
+-- the verdict on a next position is decisive just where it is the one that the side to move wants
+pub decisive-by : (own won : Bool) → cond own won (not won) ≡ beq won own
+decisive-by true true = refl
+decisive-by true false = refl
+decisive-by false true = refl
+decisive-by false false = refl

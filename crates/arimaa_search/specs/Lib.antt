@@ -1,0 +1,4 @@
+pub mod Workers
+pub mod Asking
+pub mod Questions
+pub mod Traces

@@ -1,0 +1,131 @@
+//! A question is asked: its line answers it, or it is opened.
+ghost use Rattle.std.specs.Prelude.{◌≡◌, ℕ, ◌+◌, ◌-◌, ◌<◌, ◌≤◌, ◌∷◌, suc, length, OnOk, IfOk, None};
+ghost use Rattle.arimaa_model.specs.Decided.{decided};
+ghost use Rattle.arimaa_model.specs.Results.{next};
+ghost use Rattle.arimaa_region.specs.Segments.{live_of, below_top};
+ghost use Rattle.arimaa_line.specs.Index.{place_of};
+ghost use Rattle.arimaa_table.specs.Passes.{lines_of, setting_of, steps_of, place_view, IsPassOf, KeepsNoOlder, NoFewer};
+ghost use Rattle.arimaa_search.specs.Asking.{Answered};
+ghost use Rattle.arimaa_search.specs.Traces.{Stepped, SteppedThrough, Tells};
+
+use crate::leaf::leaf;
+use crate::line::{recall, remember};
+use crate::stop::Stop;
+use arimaa_board::Position;
+use arimaa_model::decided;
+use arimaa_region::Region;
+use arimaa_results::results;
+use arimaa_table::{Table, TablePass};
+
+/// Asks whether the attacker wins a position within `depth` turns, where `left` questions may still
+/// be opened.
+#[cycle(search)]
+pub(crate) fn ask(
+    table: &Table,
+    pass: &mut TablePass,
+    region: &mut Region,
+    left: &mut u64,
+    p: &Position,
+    depth: u8,
+) -> Result<bool, Stop>
+    requires pass { IsPassOf table.now pass.old }
+    requires segments { length region.old.segments + depth < 64 }
+    requires depth { depth ≤ 20 }
+    ensures pass { IsPassOf table.now pass.new }
+    ensures later { KeepsNoOlder pass.old pass.new }
+    ensures grown { NoFewer (steps_of pass.old) (steps_of pass.new) }
+    ensures segments { region.new.segments ≡ region.old.segments }
+    ensures room { region.new.room ≡ region.old.room }
+    ensures here { Stepped (lines_of table.now) (steps_of pass.old) (steps_of pass.new) p.now }
+    ensures told { left.new ≡ left.old → IfOk result (λ v. Tells (place_view pass.new (place_of p.now (lines_of table.now))).kept p.now depth v) }
+    ensures replies { left.new < left.old → decided p.now ≡ None → 1 ≤ depth → OnOk result (SteppedThrough (setting_of table.now).attacker (setting_of table.now).barred (lines_of table.now) (depth - 1) p.now (steps_of pass.old) (steps_of pass.new)) }
+    ensures answer { Answered (setting_of table.now).attacker (setting_of table.now).barred depth p.now region.old.room (length (live_of region.old.segments)) left.old left.new result }
+{
+    if let Some(verdict) = recall(table, pass, p, depth) {
+        return Ok(verdict);
+    }
+    let verdict = open_up(table, pass, region, left, p, depth)?;
+    remember(table, pass, p, depth, verdict);
+    Ok(verdict)
+}
+
+// Opens a question, and counts it.
+#[cycle(search)]
+fn open_up(
+    table: &Table,
+    pass: &mut TablePass,
+    region: &mut Region,
+    left: &mut u64,
+    p: &Position,
+    depth: u8,
+) -> Result<bool, Stop>
+    requires pass { IsPassOf table.now pass.old }
+    requires segments { length region.old.segments + depth < 64 }
+    requires depth { depth ≤ 20 }
+    ensures pass { IsPassOf table.now pass.new }
+    ensures later { KeepsNoOlder pass.old pass.new }
+    ensures grown { NoFewer (steps_of pass.old) (steps_of pass.new) }
+    ensures segments { region.new.segments ≡ region.old.segments }
+    ensures room { region.new.room ≡ region.old.room }
+    ensures counted { OnOk result (left.new < left.old) }
+    ensures replies { left.new < left.old → decided p.now ≡ None → 1 ≤ depth → OnOk result (SteppedThrough (setting_of table.now).attacker (setting_of table.now).barred (lines_of table.now) (depth - 1) p.now (steps_of pass.old) (steps_of pass.new)) }
+    ensures answer { Answered (setting_of table.now).attacker (setting_of table.now).barred depth p.now region.old.room (length (live_of region.old.segments)) left.old left.new result }
+{
+    if *left == 0 {
+        return Err(Stop::Spent);
+    }
+    *left -= 1;
+    if let Some(ending) = decided(p) {
+        return Ok(ending.winner == table.attacker());
+    }
+    if depth == 0 {
+        return Ok(leaf(table, p));
+    }
+    let first = region.live();
+    match results(p, table.barred(), region) {
+        Err(_) => Err(Stop::Crowded),
+        Ok(mark) => {
+            let answer = look_through(table, pass, region, left, p, first, depth - 1);
+            region.release(mark);
+            answer
+        }
+    }
+}
+
+// Asks about the positions of the top segment in order, which are the next ones of an undecided
+// position, up to the first that is decisive.
+#[cycle(search)]
+fn look_through(
+    table: &Table,
+    pass: &mut TablePass,
+    region: &mut Region,
+    left: &mut u64,
+    p: &Position,
+    first: u32,
+    depth: u8,
+) -> Result<bool, Stop>
+    requires pass { IsPassOf table.now pass.old }
+    requires segments { length region.old.segments + depth < 64 }
+    requires depth { depth < 20 }
+    requires undecided { decided p.now ≡ None }
+    requires places { region.old.segments ≡ next (setting_of table.now).barred p.now ∷ below_top region.old.segments }
+    requires first { first ≡ length (live_of (below_top region.old.segments)) }
+    ensures pass { IsPassOf table.now pass.new }
+    ensures later { KeepsNoOlder pass.old pass.new }
+    ensures grown { NoFewer (steps_of pass.old) (steps_of pass.new) }
+    ensures segments { region.new.segments ≡ region.old.segments }
+    ensures room { region.new.room ≡ region.old.room }
+    ensures spent { left.new ≤ left.old }
+    ensures replies { OnOk result (SteppedThrough (setting_of table.now).attacker (setting_of table.now).barred (lines_of table.now) depth p.now (steps_of pass.old) (steps_of pass.new)) }
+    ensures answer { Answered (setting_of table.now).attacker (setting_of table.now).barred (suc depth) p.now region.old.room first (left.old + 1) left.new result }
+{
+    let own = p.side == table.attacker();
+    for place in first..region.live() {
+        let q = region.get(place);
+        let won = ask(table, pass, region, left, &q, depth)?;
+        if won == own {
+            return Ok(own);
+        }
+    }
+    Ok(!own)
+}

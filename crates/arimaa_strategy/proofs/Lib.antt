@@ -1,0 +1,10 @@
+pub mod EntryLines
+pub mod TextReading
+pub mod PlainText
+pub mod ReadingBack
+pub mod KeyTests
+pub mod PlaceLaws
+pub mod Looks
+pub mod Ranks
+pub mod FaultLaws
+pub mod CheckLaws

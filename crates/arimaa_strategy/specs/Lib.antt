@@ -1,0 +1,8 @@
+pub mod Entries
+pub mod Keys
+pub mod Places
+pub mod Text
+pub mod WrittenForm
+pub mod Faults
+pub mod Checks
+pub mod Findings

@@ -1,0 +1,22 @@
+//! Strategies for wins by force: their texts, and a checker that trusts no prover.
+#![tactic(auto)]
+
+mod checked;
+mod checker;
+mod entry_line;
+mod fault;
+mod finding;
+mod key;
+mod reader;
+mod strategy;
+#[cfg(test)]
+mod tests;
+mod written_form;
+
+pub use arimaa_forced::Entry;
+pub use checked::{Checked, Why};
+pub use checker::check;
+pub use fault::StrategyFault;
+pub use reader::read_strategy;
+pub use strategy::Strategy;
+pub use written_form::strategy_text;
