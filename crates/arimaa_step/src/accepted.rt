@@ -11,7 +11,7 @@ use crate::state::TurnState;
 use arimaa_board::{Color, Dir, Piece, Square, entering, mask_of};
 use arimaa_model::{is_back, pushable, pushers_of, unfrozen_of, weaker_than};
 
-/// The steps that a state accepts: one mask a direction, where bit n is 1 exactly where the piece on square n may go so.
+/// The steps that a state accepts: one mask a direction, with bit n for the piece on square n.
 #[derive(Clone, Copy, Debug, PartialEq, Eq)]
 pub struct AcceptedSteps {
     /// The squares from which a step goes north.
@@ -77,7 +77,8 @@ fn left_mask(left: Option<(Square, Piece)>) -> u64
 
 // The rabbits, where a step in a direction goes backward.
 fn kept_back(rabbits: u64, side: Color, dir: Dir) -> u64
-    ensures { (test : ℕ → Bool) → IsMaskOf test rabbits → IsMaskOf (λ n. is_back side dir && test n) result }
+    ensures { (test : ℕ → Bool) → IsMaskOf test rabbits
+        → IsMaskOf (λ n. is_back side dir && test n) result }
 {
     if is_back(side, dir) { rabbits } else { 0 }
 }
@@ -85,7 +86,8 @@ fn kept_back(rabbits: u64, side: Color, dir: Dir) -> u64
 impl Movers {
     // The squares from which a step in a direction is accepted, in a state with fewer than four steps.
     fn towards(&self, side: Color, dir: Dir) -> u64
-        ensures { (st : TurnState) → st.start.side ≡ side → st.count < 4 → AreMovers st self.now → IsMaskOf (accepts st dir) result }
+        ensures { (st : TurnState) → st.start.side ≡ side → st.count < 4
+            → AreMovers st self.now → IsMaskOf (accepts st dir) result }
     {
         let fitting = self.here & entering(!self.here, dir);
         let going = self.going & !kept_back(self.rabbits, side, dir);

@@ -1,4 +1,4 @@
-use Rattle.std.proofs.Common.{ℕ, Bool}
+use Rattle.std.proofs.Common.{ℕ}
 use Rattle.std.specs.Prelude.{◌||◌}
 use Rattle.arimaa_board.proofs.MaskLaws.{or_mask, like_mask}
 use Rattle.arimaa_board.specs.Board.{at}

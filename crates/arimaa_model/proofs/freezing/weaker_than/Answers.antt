@@ -1,4 +1,4 @@
-use Rattle.std.proofs.Common.{◌&&◌, ℕ, Some}
+use Rattle.std.proofs.Common.{◌&&◌, Some}
 use Rattle.arimaa_board.proofs.MaskLaws.{and_mask, like_mask}
 use Rattle.arimaa_board.specs.Board.{at, holds_color}
 use Rattle.arimaa_board.specs.Masks.{holds_below}
