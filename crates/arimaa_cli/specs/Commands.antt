@@ -1,9 +1,10 @@
 -- The commands: the words of each, what it reads, the calls that serve it, and what it answers.
 pub mod Control
 pub mod Judge
+pub mod Make
 pub mod Prove
 pub mod Show
-use Rattle.std.specs.Prelude.{◌≡◌, ◌≢◌, ◌<◌, ◌≤◌, ℕ, List, [], ◌∷◌, Bool, true, false, not, IsTrue, Some, Ok, Err, codes, length, slice_get, slice_index}
+use Rattle.std.specs.Prelude.{◌≡◌, ◌≢◌, ◌<◌, ◌≤◌, ◌-◌, ◌^◌, ℕ, List, [], ◌∷◌, Bool, true, false, not, IsTrue, Some, Ok, Err, codes, length, slice_get, slice_index}
 use Rattle.std.specs.Fmt.{decimal}
 use Rattle.arimaa_judge.specs.declared.judging.Judged.TheVariants as judgement
 use Rattle.arimaa_judge.specs.declared.rule.Rule.{Rule}
@@ -15,6 +16,7 @@ use Rattle.arimaa_cli.specs.declared.answer.Answer.{Answer}
 use Rattle.arimaa_cli.specs.declared.answer.Answer.TheVariants.{Answered}
 use Rattle.arimaa_cli.specs.declared.answer.Refusal.TheVariants.{Words, NotBuilt, TooLong}
 use Rattle.arimaa_cli.specs.declared.commands.TheConstants.{MOST_TURNS}
+use Rattle.arimaa_cli.specs.declared.commands.make.TheConstants.{MOST_MADE}
 use Rattle.arimaa_cli.specs.declared.commands.Call.{Call}
 use Rattle.arimaa_cli.specs.declared.commands.Call.TheVariants.{Run, RunProve, RunStill}
 use Rattle.arimaa_cli.specs.declared.commands.Command.{Command}
@@ -25,6 +27,7 @@ use Rattle.arimaa_cli.specs.declared.record.Game.{Game}
 use Rattle.arimaa_cli.specs.Answer.{Found}
 use Rattle.arimaa_cli.specs.Commands.Control.{IsControlAnswer}
 use Rattle.arimaa_cli.specs.Commands.Judge.{IsJudgeAnswer}
+use Rattle.arimaa_cli.specs.Commands.Make.{IsMakeAnswer}
 use Rattle.arimaa_cli.specs.Commands.Prove.{IsProveAnswer}
 use Rattle.arimaa_cli.specs.Commands.Show.{IsShowAnswer}
 
@@ -47,6 +50,7 @@ words_of (command.About question.Show) = codes "show" ∷ []
 words_of (command.About (question.Prove asked)) =
     codes "prove" ∷ side_word asked.attacker ∷ decimal asked.depth ∷ []
 words_of (command.Control text) = codes "control" ∷ text ∷ []
+words_of (command.Make asked) = codes "make" ∷ decimal asked.number ∷ decimal asked.turns ∷ []
 
 -- the values of a command are in their ranges
 abbrev pub IsInRange : Command → Type 0
@@ -54,6 +58,7 @@ IsInRange (command.About question.Judge) = Unit {0}
 IsInRange (command.About question.Show) = Unit {0}
 IsInRange (command.About (question.Prove asked)) = asked.depth ≤ MOST_TURNS
 IsInRange (command.Control text) = IsTextWord text
+IsInRange (command.Make asked) = (asked.number ≤ 2 ^ 64 - 1) × (asked.turns ≤ MOST_MADE)
 
 -- the words are those of a command
 pub record AreWords (words : List (List ℕ)) (c : Command) : Type 0 where
@@ -68,6 +73,7 @@ is_prove (command.About (question.Prove asked)) = true
 is_prove (command.About question.Judge) = false
 is_prove (command.About question.Show) = false
 is_prove (command.Control text) = false
+is_prove (command.Make asked) = false
 
 -- a call serves a command
 abbrev pub serves : Call → Command → Bool
@@ -94,11 +100,13 @@ IsBuilt (question.Prove asked) = asked.depth ≤ 1
 abbrev pub Reads : Command → Type 0
 Reads (command.About q) = IsBuilt q
 Reads (command.Control text) = ⊥
+Reads (command.Make asked) = ⊥
 
 -- a command is a question that can't be answered today
 abbrev pub IsUnbuilt : Command → Type 0
 IsUnbuilt (command.About q) = IsBuilt q → ⊥
 IsUnbuilt (command.Control text) = ⊥
+IsUnbuilt (command.Make asked) = ⊥
 
 -- ---- answers
 
@@ -136,6 +144,7 @@ IsAnAnswer IsOne (Err refusal) = ⊥
 abbrev pub IsAnswerOf : List ℕ → Command → Found → Type 0
 IsAnswerOf given (command.About q) found = IsRecordAnswer given q found
 IsAnswerOf given (command.Control text) found = IsAnAnswer (IsControlAnswer text) found
+IsAnswerOf given (command.Make asked) found = IsAnAnswer (IsMakeAnswer asked) found
 
 -- what a call finds for words over an input of these bytes, the first of these that applies
 pub data IsAnswer (call : Call) (words : List (List ℕ)) (given : List ℕ) : Found → Type 0 where

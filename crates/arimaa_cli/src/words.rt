@@ -1,15 +1,16 @@
 //! The words that ask for a command.
-ghost use Rattle.std.specs.Prelude.{◌≡◌, ◌≤◌, ◌↔◌, ℕ, List, IfNone, IfSome, IsTrue, Some};
+ghost use Rattle.std.specs.Prelude.{◌≡◌, ◌<◌, ◌^◌, ◌≤◌, ◌↔◌, ℕ, List, IfNone, IfSome, IsTrue, Some};
 ghost use Rattle.std.specs.Fmt.{decimal};
 ghost use Rattle.arimaa_board.specs.declared.piece.Color.{Color as Side};
 ghost use Rattle.arimaa_judge.specs.Texts.{side_word};
 ghost use Rattle.arimaa_cli.specs.declared.commands.Asked.{Asked as Inquiry};
 ghost use Rattle.arimaa_cli.specs.declared.commands.Command.{Command as Order};
+ghost use Rattle.arimaa_cli.specs.declared.commands.make.Making.{Making as Wish};
 ghost use Rattle.arimaa_cli.specs.declared.commands.Command.TheVariants as order;
 ghost use Rattle.arimaa_cli.specs.declared.commands.Question.TheVariants as question;
 ghost use Rattle.arimaa_cli.specs.Commands.{AreWords, IsNamed, IsTextWord};
 
-use crate::commands::{Asked, Command, MOST_TURNS, Question};
+use crate::commands::{Asked, Command, MOST_MADE, MOST_TURNS, Making, Question};
 use arimaa_board::Color;
 use arimaa_outside::CommandWords;
 use arimaa_record::read_number;
@@ -75,6 +76,16 @@ fn read_depth(word: &str) -> Option<u8>
     }
 }
 
+// The number up to a bound that a word gives in decimal digits.
+fn read_up_to(word: &str, most: u64) -> Option<u64>
+    ensures { (n : ℕ) → (result ≡ Some n) ↔ ((n ≤ most) × (word.now ≡ decimal n)) }
+{
+    match read_number(word.as_bytes()) {
+        None => None,
+        Some(number) => { if number <= most { Some(number) } else { None } }
+    }
+}
+
 // Whether a word may stand for a text.
 fn is_text(word: &[u8]) -> bool
     ensures { IsTrue result ↔ IsTextWord word.now }
@@ -97,6 +108,19 @@ fn read_prove(words: &CommandWords) -> Option<Asked>
     let attacker = read_side(words.get(1)?)?;
     let depth = read_depth(words.get(2)?)?;
     Some(Asked { attacker, depth })
+}
+
+// What the words ask of `make`: the name, a number and a number of turns.
+fn read_make(words: &CommandWords) -> Option<Making>
+    ensures form { IfSome result (λ asked. AreWords words.now (order.Make asked)) }
+    ensures none { IfNone result ((asked : Wish) → ¬ AreWords words.now (order.Make asked)) }
+{
+    if !is_named(words, "make", 3) {
+        return None;
+    }
+    let number = read_up_to(words.get(1)?, u64::MAX)?;
+    let turns = read_up_to(words.get(2)?, MOST_MADE)?;
+    Some(Making { number, turns })
 }
 
 // The text that the words ask `control` about.
@@ -133,6 +157,9 @@ pub fn read_command(words: &CommandWords) -> Option<Command<'_>>
     }
     if let Some(text) = read_control(words) {
         return Some(Command::Control(text));
+    }
+    if let Some(asked) = read_make(words) {
+        return Some(Command::Make(asked));
     }
     None
 }

@@ -1,9 +1,9 @@
-//! What `prove` answers over one start line, what `control` answers, and words out of form.
+//! What `prove` answers over one start line, what `control` and `make` answer, and words out of form.
 use crate::runs::{Outside, Row, check, run};
 use arimaa_outside::Status;
 use std::test::Fail;
 
-const ROWS: [Row<'static>; 33] = [
+const ROWS: [Row<'static>; 35] = [
     // the elephant's steps come first and win nothing
     Row {
         words: "prove gold 1",
@@ -235,10 +235,24 @@ const ROWS: [Row<'static>; 33] = [
         output: "control field 7\n",
         status: Status::Answered,
     },
+    // the setups alone
+    Row {
+        words: "make 5 0",
+        input: "",
+        output: "turns 0\nbytes 134\nnext 2g\n",
+        status: Status::Done,
+    },
+    // Ra2n Ra1n Rb1w Rh2n, hb7s hb6s cc7w ed7s and Rc1w Cc2n Cc3x Md2n Md3n
+    Row {
+        words: "make 7 3",
+        input: "",
+        output: "turns 3\nbytes 208\nnext 3s\n",
+        status: Status::Done,
+    },
 ];
 
 // Words that are not in the form of the command.
-const BAD_WORDS: [&str; 17] = [
+const BAD_WORDS: [&str; 19] = [
     "control",
     "control -1",
     "control 1 2",
@@ -256,6 +270,8 @@ const BAD_WORDS: [&str; 17] = [
     "prove gold 1 1",
     "prove gold 1 --workers 2",
     "prove gold one",
+    "make 5",
+    "make 7 1001",
 ];
 
 #[test]
