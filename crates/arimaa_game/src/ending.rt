@@ -6,7 +6,7 @@ ghost use Rattle.arimaa_model.specs.Game.{ended_for, ending_at, lawful_at, stuck
 use arimaa_board::Position;
 use arimaa_history::{Barred, History};
 use arimaa_model::{Cause, Ending, decided};
-use arimaa_results::{Wanted, any_result, first_turn_where};
+use arimaa_results::{Wanted, any_turn, first_turn_where};
 
 // Wanted is a position that is not barred, so that a turn may bring it about.
 #[derive(Clone, Copy)]
@@ -29,7 +29,7 @@ impl Wanted for Allowed<'_> {
 fn stuck_cause(p: &Position) -> Cause
     ensures { result ≡ stuck_cause (results p.now) }
 {
-    if any_result(p, &[]) {
+    if any_turn(p) {
         Cause::Repetition
     } else {
         Cause::Immobile

@@ -5,6 +5,7 @@
 ghost use Rattle.std.specs.Prelude.{◌≡◌, ◌<◌, length, false};
 
 use arimaa_board::{Color, Position, read_board};
+use arimaa_history::Barred;
 use arimaa_region::Region;
 use arimaa_results::{Wanted, first_turn_where, results};
 use std::rt::Runtime;
@@ -23,11 +24,11 @@ impl Wanted for Nothing {
 }
 
 // Lists the results and gives their places back; how many there were.
-fn list(p: &Position, region: &mut Region) -> u32
+fn list(p: &Position, barred: &Barred, region: &mut Region) -> u32
     requires { length region.old.segments < 64 }
     ensures { region.new.segments ≡ region.old.segments }
 {
-    match results(p, &[], region) {
+    match results(p, barred, region) {
         Err(full) => full.live,
         Ok(mark) => {
             let (_, size) = region.segment(mark);
@@ -44,11 +45,12 @@ fn time_lists(
     rounds: u32,
 ) -> io::Result<(u32, Duration)> {
     let mut region = Region::with_work(rt.alloc(), 262_144, 32_768)?;
+    let barred = Barred::new(rt.alloc());
     let mut least = Duration::MAX;
     let mut size = 0;
     for _ in 0..rounds {
         let start = Instant::now(rt)?;
-        size = list(p, &mut region);
+        size = list(p, &barred, &mut region);
         least = least.min(start.elapsed(rt)?);
     }
     Ok((size, least))

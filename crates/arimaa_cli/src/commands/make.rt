@@ -13,6 +13,7 @@ use crate::answer::{Answer, Text, push_number};
 use crate::winning::noted;
 use arimaa_board::{Color, Position, Turn, board_text};
 use arimaa_game::{Game, GameFault};
+use arimaa_history::Barred;
 use arimaa_judge::{Judged, bad_text, judge, judgements_agree, push_state};
 use arimaa_model::Ending;
 use arimaa_record::{Label, RecordLine, push_line};
@@ -57,7 +58,7 @@ struct Picked {
 }
 
 // What a number picks from the list at a position. None where the list is too long.
-fn pick(p: &Position, barred: &[Position], number: u64, region: &mut Region) -> Option<Picked>
+fn pick(p: &Position, barred: &Barred, number: u64, region: &mut Region) -> Option<Picked>
     requires empty { region.old.segments ≡ [] }
     requires room { region.old.room ≡ MOST_PLACES }
     requires some { 0 < length (next barred.now p.now) }
