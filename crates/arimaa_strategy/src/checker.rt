@@ -1,17 +1,16 @@
 //! The checker of strategies.
-ghost use Rattle.std.specs.Prelude.{◌≡◌, ◌<◌, ◌≤◌, ℕ, ◌+◌, max, Some, [], length, slice_get, take, IfSome, IsSome};
-ghost use Rattle.arimaa_model.specs.Game.{barred_by, present};
-ghost use Rattle.arimaa_model.specs.Results.{next};
+ghost use Rattle.std.specs.Prelude.{◌≡◌, ◌+◌, ◌<◌, ◌≤◌, ℕ, max, None, Some, [], length, take, IfSome, IsSome};
 ghost use Rattle.arimaa_board.specs.declared.position.Position.{Position as PositionValue};
+ghost use Rattle.arimaa_model.specs.Game.{barred_by, present};
+ghost use Rattle.arimaa_model.specs.Results.{next, stands_in};
+ghost use Rattle.arimaa_model.specs.Strategies.{result_at};
+ghost use Rattle.arimaa_forced.specs.Entries.{planned_of};
 ghost use Rattle.arimaa_region.specs.Segments.{live_of, segment_of};
 ghost use Rattle.arimaa_strategy.specs.Entries.{plan_of};
 ghost use Rattle.arimaa_strategy.specs.Faults.{led_to};
 ghost use Rattle.arimaa_strategy.specs.Checks.{IfAccepted, IsChecked, IsWonBy};
-ghost use Rattle.arimaa_model.specs.Results.{stands_in};
-ghost use Rattle.arimaa_model.specs.Strategies.{result_at};
-ghost use Rattle.arimaa_forced.specs.Entries.{planned_of};
-ghost use Rattle.std.specs.Prelude.{None};
-ghost use Rattle.arimaa_strategy.specs.Findings.{IfRank, look_by, covered_rank, replies_rank, look_at, finding_of, finding_at, first_answer, root_look, root_answer, checked_of};
+ghost use Rattle.arimaa_strategy.specs.Findings.{covered_rank, replies_rank, IfRank, look_by, look_at, finding_of, finding_at};
+ghost use Rattle.arimaa_strategy.specs.Findings.{first_answer, root_look, root_answer, checked_of};
 
 use crate::checked::{Checked, Why};
 use crate::finding::{Finding, Look};
@@ -47,7 +46,8 @@ fn raised(top: u16, rank: u8) -> u16
 // One more than the largest rank of the replies in a segment, where each is covered.
 fn replies_rank(attacker: Color, strategy: &Strategy, region: &Region, mark: Mark) -> Option<u16>
     requires { mark < length region.now.segments }
-    ensures rank { result ≡ replies_rank attacker (plan_of strategy.now) (segment_of region.now.segments mark) }
+    ensures rank { result
+        ≡ replies_rank attacker (plan_of strategy.now) (segment_of region.now.segments mark) }
     ensures small { IfSome result (λ r. r ≤ 256) }
     ensures within { length (live_of region.now.segments) ≤ region.now.room }
 {
@@ -72,7 +72,8 @@ fn look_at_replies(
     region: &mut Region,
 ) -> Look
     requires closed { region.old.segments ≡ [] }
-    ensures look { result ≡ look_by region.old.room attacker barred.now (plan_of strategy.now) p.now None }
+    ensures look { result
+        ≡ look_by region.old.room attacker barred.now (plan_of strategy.now) p.now None }
     ensures small { IfRank result (λ r. r ≤ 256) }
     ensures region { region.new ≡ record region.old { work = region.new.work } }
     ensures layers_room { region.new.work.room ≡ region.old.work.room }
@@ -100,7 +101,8 @@ fn look_at(
     region: &mut Region,
 ) -> Look
     requires closed { region.old.segments ≡ [] }
-    ensures look { result ≡ look_at region.old.room attacker barred.now (plan_of strategy.now) p.now }
+    ensures look { result
+        ≡ look_at region.old.room attacker barred.now (plan_of strategy.now) p.now }
     ensures small { IfRank result (λ r. r ≤ 256) }
     ensures region { region.new ≡ record region.old { work = region.new.work } }
     ensures layers_room { region.new.work.room ≡ region.old.work.room }
@@ -176,7 +178,8 @@ fn finding_at(
     region: &mut Region,
 ) -> Finding
     requires closed { region.old.segments ≡ [] }
-    ensures finding { result ≡ finding_at region.old.room attacker barred.now strategy.now (take number strategy.now) entry.now }
+    ensures finding { let earlier = take number strategy.now in
+        result ≡ finding_at region.old.room attacker barred.now strategy.now earlier entry.now }
     ensures region { region.new ≡ record region.old { work = region.new.work } }
     ensures layers_room { region.new.work.room ≡ region.old.work.room }
 {
@@ -203,7 +206,8 @@ fn first_answer(
     region: &mut Region,
 ) -> Option<Checked>
     requires closed { region.old.segments ≡ [] }
-    ensures answer { result ≡ first_answer region.old.room attacker barred.now strategy.now 1 [] strategy.now }
+    ensures answer { result
+        ≡ first_answer region.old.room attacker barred.now strategy.now 1 [] strategy.now }
     ensures region { region.new ≡ record region.old { work = region.new.work } }
     ensures layers_room { region.new.work.room ≡ region.old.work.room }
 {
@@ -231,7 +235,8 @@ fn root_look(
     region: &mut Region,
 ) -> Look
     requires closed { region.old.segments ≡ [] }
-    ensures look { result ≡ root_look region.old.room attacker barred.now (plan_of strategy.now) root.now }
+    ensures look { result
+        ≡ root_look region.old.room attacker barred.now (plan_of strategy.now) root.now }
     ensures region { region.new ≡ record region.old { work = region.new.work } }
     ensures layers_room { region.new.work.room ≡ region.old.work.room }
 {

@@ -1,6 +1,7 @@
 //! The reader of lines.
-ghost use Rattle.std.specs.Prelude.{◌≡◌, ◌≢◌, ◌↔◌, ◌≤◌, ◌==◌, ℕ, IsTrue, Some, IfNone, IfSome, slice_index, true};
+ghost use Rattle.std.specs.Prelude.{◌≡◌, ◌↔◌, ◌≤◌, ◌==◌, ℕ, List, length, slice_index, IsTrue, Some, IfNone, IfSome};
 ghost use Rattle.std.specs.Fmt.{decimal};
+ghost use Rattle.std.specs.List.{prefix_len};
 ghost use Rattle.arimaa_board.specs.declared.board.Board.{Board as Squares};
 ghost use Rattle.arimaa_board.specs.declared.turn.NotedStep.{NotedStep};
 ghost use Rattle.arimaa_notation.specs.Items.{is_blank};
@@ -8,9 +9,6 @@ ghost use Rattle.arimaa_record.specs.Blanks.{without_first_blanks};
 ghost use Rattle.arimaa_record.specs.Grammar.{IsBlankLine};
 ghost use Rattle.arimaa_forced.specs.declared.entry.Entry.{Entry as EntryValue};
 ghost use Rattle.arimaa_strategy.specs.Text.{IsBoardAndTurn, IsEntryText};
-ghost use Rattle.std.specs.Prelude.{List};
-ghost use Rattle.std.specs.List.{prefix_len};
-ghost use Rattle.std.specs.Prelude.{length};
 
 use arimaa_board::{Board, Color, Noted, Position, read_board};
 use arimaa_forced::Entry;
@@ -80,7 +78,8 @@ fn read_rank(item: &[u8]) -> Option<u8>
 // The board and the turn that follow the rank.
 fn read_board_and_turn(rest: &[u8]) -> Option<(Board, Noted)>
     ensures form { IfSome result (λ x. IsBoardAndTurn rest.now x.0 x.1) }
-    ensures none { IfNone result ((b : Squares) (ns : List NotedStep) → ¬ IsBoardAndTurn rest.now b ns) }
+    ensures none { IfNone result ((b : Squares) (ns : List NotedStep)
+        → ¬ IsBoardAndTurn rest.now b ns) }
 {
     let text = after_blanks(rest);
     if text.len() < 66 {

@@ -1,5 +1,5 @@
 //! Strategies.
-ghost use Rattle.std.specs.Prelude.{◌≡◌, ◌<◌, ℕ, None, Some, [], ◌∷◌, ◌++◌, length, is_some, take, IfSome, OnOk, OnErr, if◌then◌else◌};
+ghost use Rattle.std.specs.Prelude.{◌≡◌, ◌<◌, None, Some, [], ◌∷◌, ◌++◌, length, is_some, take, IfSome, OnOk, OnErr, if◌then◌else◌};
 ghost use Rattle.std.specs.HashMap.{get};
 ghost use Rattle.std.specs.Option.{option_map, option_or};
 ghost use Rattle.arimaa_model.specs.Strategies.{find_entry};
@@ -41,7 +41,8 @@ impl Model for Strategy {
 fn file(places: &mut HashMap<Key, usize>, key: Key, number: usize) -> Result<(), AllocError>
     ensures filed { OnOk result ((k : KeyValue) → get same_key places.new k
         ≡ option_or (get same_key places.old k) (if same_key key k then Some number else None)) }
-    ensures unchanged { OnErr result ((k : KeyValue) → get same_key places.new k ≡ get same_key places.old k) }
+    ensures unchanged { OnErr result ((k : KeyValue) → get same_key places.new k
+        ≡ get same_key places.old k) }
 {
     if places.contains_key(&key) {
         return Ok(());
