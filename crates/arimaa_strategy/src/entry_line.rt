@@ -1,10 +1,10 @@
 //! The reader of lines.
-ghost use Rattle.std.specs.Prelude.{◌≡◌, ◌↔◌, ◌≤◌, ◌==◌, ℕ, List, length, slice_index, IsTrue, Some, IfNone, IfSome};
+ghost use Rattle.std.specs.Prelude.{◌≡◌, ◌↔◌, ◌≤◌, ◌==◌, ◌∷◌, [], ℕ, List, length, slice_index, IsTrue, Some, IfNone, IfSome};
 ghost use Rattle.std.specs.Fmt.{decimal};
 ghost use Rattle.std.specs.List.{prefix_len};
 ghost use Rattle.arimaa_board.specs.declared.board.Board.{Board as Squares};
 ghost use Rattle.arimaa_board.specs.declared.turn.NotedStep.{NotedStep};
-ghost use Rattle.arimaa_notation.specs.Items.{is_blank};
+ghost use Rattle.arimaa_notation.specs.Items.{is_blank, items_of};
 ghost use Rattle.arimaa_record.specs.Blanks.{without_first_blanks};
 ghost use Rattle.arimaa_record.specs.Grammar.{IsBlankLine};
 ghost use Rattle.arimaa_forced.specs.declared.entry.Entry.{Entry as EntryValue};
@@ -15,13 +15,24 @@ use arimaa_forced::Entry;
 use arimaa_notation::{first_item, read_turn};
 use arimaa_record::read_number;
 
+// The first item of a line.
+fn front(line: &[u8]) -> Option<&[u8]>
+    ensures none { IfNone result (items_of line.now ≡ []) }
+    ensures some { IfSome result (λ item. (later : List (List ℕ)) × (items_of line.now ≡ item.now ∷ later)) }
+{
+    match first_item(line) {
+        None => None,
+        Some((item, _)) => Some(item),
+    }
+}
+
 // Whether a line says nothing: it has only blanks, or it is a comment.
 pub fn is_blank_line(line: &[u8]) -> bool
     ensures { IsTrue result ↔ IsBlankLine line.now }
 {
-    match first_item(line) {
+    match front(line) {
         None => true,
-        Some((item, _)) => begins_comment(item),
+        Some(item) => begins_comment(item),
     }
 }
 
