@@ -57,14 +57,14 @@ running-rules g running = first (ending g.history) (ending_by g.closing (present
   first (Some a) x e = absurd (cc)
 
 -- and no word has closed it
-pub running-unclosed : (g : Play) (p : Position) → present g.history ≡ Some p → ending_of g ≡ None → g.closing ≡ None
+pub running-unclosed : (g : Play) → IsSome (present g.history) → ending_of g ≡ None → g.closing ≡ None
 unfolding ending_of
-running-unclosed g p now running =
-    by_word g.closing (ending g.history) (ap (λ (o : Option Position). option_or (ending g.history) (ending_by g.closing o)) (sym now) ∙ running) where
-      by_word : (w : Option Word) (o : Option Ending) → option_or o (ending_by w (Some p)) ≡ None → w ≡ None
-      by_word None o e = refl
-      by_word (Some w) None e = absurd (cc)
-      by_word (Some w) (Some a) e = absurd (cc)
+running-unclosed g some running = by_word g.closing (ending g.history) (present g.history) some running where
+  by_word : (w : Option Word) (o : Option Ending) (now : Option Position) → IsSome now → option_or o (ending_by w now) ≡ None → w ≡ None
+  by_word None o now some e = refl
+  by_word (Some w) o None some e = absurd (true≢false (sym some))
+  by_word (Some w) None (Some p) some e = absurd (cc)
+  by_word (Some w) (Some a) (Some p) some e = absurd (cc)
 
 -- a game that no word has closed ends by the rules
 pub unclosed-ending : (h : List Position) (w : Option Word) → w ≡ None → ending h ≡ ending_of (record { history = h; closing = w })
@@ -106,30 +106,28 @@ lawful-more h q each here =
     (cases_lt k (length h))
 
 -- what a game keeps after a position was added
-pub kept-grown : (h new : List Position) (w : Option Word) (q : Position) (o : Option Ending) → new ≡ h ++ q ∷ [] → w ≡ None → All (λ (x : Position). IsFit x.board) h → IsFit q.board → AreLawful h → (0 < length h → (ending h ≡ None) × IsLawful h q) → o ≡ ending_at new q → IsKept (record { history = new; closing = w }) q o
+pub kept-grown : (h new : List Position) (w : Option Word) (q : Position) (o : Option Ending) → new ≡ h ++ q ∷ [] → w ≡ None → All (λ (x : Position). IsFit x.board) h → IsFit q.board → AreLawful h → (0 < length h → (ending h ≡ None) × IsLawful h q) → o ≡ ending_at new q → IsKept (record { history = new; closing = w }) o
 kept-grown h new w q o more none fits fit each lawful is =
     let Fits : Position → Type 0 = λ x. IsFit x.board in
     let now : present new ≡ Some q = ap present more ∙ present-push h q in
     record {
       game = record { some = is_present (present new) q now; fit = subst (All Fits) (sym more) (All-push Fits h q fits fit); lawful = subst AreLawful (sym more) (lawful-more h q each lawful); closing = λ some. absurd (no_word w none some) };
-      present = now;
       ending = is ∙ (sym (ending-present new q now) ∙ unclosed-ending new w none);
     }
 
 -- what a game keeps at its first position
-pub kept-begun : (h new : List Position) (p : Position) (o : Option Ending) → h ≡ [] → new ≡ h ++ p ∷ [] → IsFit p.board → o ≡ ending_at new p → IsKept (record { history = new; closing = None }) p o
+pub kept-begun : (h new : List Position) (p : Position) (o : Option Ending) → h ≡ [] → new ≡ h ++ p ∷ [] → IsFit p.board → o ≡ ending_at new p → IsKept (record { history = new; closing = None }) o
 kept-begun [] new p o e more fit is =
     kept-grown [] new None p o more refl (λ k d small. absurd (omega arith)) fit (λ k d low small. absurd (omega arith)) (λ some. absurd (omega arith)) is
 kept-begun (q ∷ h) new p o e more fit is = absurd (cc)
 
 -- what a game keeps after a word has closed it
-pub kept-closed : (g : Play) (p : Position) (o : Option Ending) (word : Word) (e : Ending) → IsKept g p o → is_some o ≡ false → e ≡ closed_by word p.side → IsKept (record { history = g.history; closing = Some word }) p (Some e)
-kept-closed g p o word e kept running is =
+pub kept-closed : (g : Play) (p : Position) (o : Option Ending) (word : Word) (e : Ending) → present g.history ≡ Some p → IsKept g o → is_some o ≡ false → e ≡ closed_by word p.side → IsKept (record { history = g.history; closing = Some word }) (Some e)
+kept-closed g p o word e now kept running is =
     let none : ending g.history ≡ None = running-rules g (sym kept.ending ∙ is_none o running) in
     record {
       game = record { some = kept.game.some; fit = kept.game.fit; lawful = kept.game.lawful; closing = λ some. none };
-      present = kept.present;
-      ending = ap Some is ∙ sym (closed-ending g.history p word kept.present none);
+      ending = ap Some is ∙ sym (closed-ending g.history p word now none);
     } where
       is_none : (x : Option Ending) → is_some x ≡ false → x ≡ None
       is_none None f = refl

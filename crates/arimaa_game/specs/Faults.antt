@@ -21,6 +21,7 @@ IsFaultOf (Ok v) fault = fault ≡ faults.Memory
 abbrev pub rule_broken : GameFault → Option FirstFault
 rule_broken faults.Over = None
 rule_broken (faults.Step place e) = Some (first.Step place e)
+rule_broken faults.Mark = Some first.Mark
 rule_broken (faults.Turn e) = Some (first.Turn e)
 rule_broken faults.Repeat = Some first.Repeat
 rule_broken faults.Memory = None

@@ -1,15 +1,18 @@
 -- A game as contracts see it, and what turns and words do to it.
-use Rattle.std.specs.Prelude.{◌≡◌, ℕ, ◌<◌, List, [], ◌∷◌, ◌++◌, Option, None, Some, Result, Ok, Err, All, IsSome, is_some, nat_le, length, take, if◌then◌else◌}
+use Rattle.std.specs.Prelude.{◌≡◌, ℕ, ◌<◌, ◌≤◌, Bool, true, false, List, [], ◌∷◌, ◌++◌, Option, None, Some, Result, Ok, Err, All, IsSome, is_some, nat_le, length, take, if◌then◌else◌}
 use Rattle.std.specs.List.{slice_index_or}
 use Rattle.std.specs.Option.{option_or}
 use Rattle.arimaa_board.specs.Fit.{IsFit}
+use Rattle.arimaa_board.specs.Noted.{noted_marks, noted_turn}
 use Rattle.arimaa_board.specs.declared.position.Position.{Position}
+use Rattle.arimaa_board.specs.declared.turn.NotedStep.{NotedStep}
 use Rattle.arimaa_board.specs.declared.position.Step.{Step}
 use Rattle.arimaa_model.specs.declared.ending.Ending.{Ending}
 use Rattle.arimaa_model.specs.declared.ending.Word.{Word}
 use Rattle.arimaa_model.specs.declared.fault.ApplyFault.{ApplyFault}
 use Rattle.arimaa_model.specs.Faults.{applied}
 use Rattle.arimaa_model.specs.Game.{IsLawful, closed_by, count_in, ending, present}
+use Rattle.arimaa_model.specs.Marks.{marks_right}
 use Rattle.arimaa_step.specs.Future.{IsTurnTo}
 use Rattle.arimaa_game.specs.declared.fault.GameFault.{GameFault}
 use Rattle.arimaa_game.specs.declared.fault.GameFault.TheVariants as faults
@@ -56,6 +59,22 @@ turned h (Some p) steps = unless_third h (applied p steps)
 unfoldable pub played : Play → List Step → Result Position GameFault
 played g steps = if is_some (ending_of g) then Err faults.Over else turned g.history (present g.history) steps
 
+-- what a turn with marks that are right or not brings about: wrong marks are a fault that comes after an ended game and a step that is refused, and before all others
+abbrev pub unless_marked : Bool → Result Position GameFault → Result Position GameFault
+unless_marked true r = r
+unless_marked false (Err faults.Over) = Err faults.Over
+unless_marked false (Err (faults.Step place e)) = Err (faults.Step place e)
+unless_marked false _ = Err faults.Mark
+
+-- whether the marks of a turn are right at the present position
+abbrev pub has_right_marks : Option Position → List NotedStep → Bool
+has_right_marks None noted = true
+has_right_marks (Some p) noted = marks_right p.board (noted_turn noted) (noted_marks noted)
+
+-- what a turn with marks brings about in a game, or its first fault
+abbrev pub played_noted : Play → List NotedStep → Result Position GameFault
+played_noted g noted = unless_marked (has_right_marks (present g.history) noted) (played g (noted_turn noted))
+
 -- each position but the first follows on a game that had not ended, and in which a turn may bring it about
 abbrev pub AreLawful : List Position → Type 0
 AreLawful h = (k : ℕ) (d : Position) → 0 < k → k < length h → (ending (take k h) ≡ None) × IsLawful (take k h) (slice_index_or h k d)
@@ -67,11 +86,19 @@ pub record IsGame (g : Play) : Type 0 where
   pub lawful : AreLawful g.history
   pub closing : IsSome g.closing → ending g.history ≡ None
 
--- what a game keeps at hand is its present position and how it has ended
-pub record IsKept (g : Play) (now : Position) (ended : Option Ending) : Type 0 where
+-- what a game keeps at hand is how it has ended
+pub record IsKept (g : Play) (ended : Option Ending) : Type 0 where
   pub game : IsGame g
-  pub present : present g.history ≡ Some now
   pub ending : ended ≡ ending_of g
+
+-- a turn from p reaches q in a game that goes on: it may be played unless q stands twice already
+pub record Reaches (g : Play) (p : Position) (steps : List Step) (q : Position) : Type 0 where
+  pub answer : played g steps ≡ unless_third g.history (Ok q)
+  pub running : ending_of g ≡ None
+  pub present : present g.history ≡ Some p
+  pub turn : IsTurnTo p steps q
+  pub lawful : count_in g.history q ≤ 1 → IsLawful g.history q
+  pub fit : IsFit q.board
 
 -- a turn from p brings q about in a game that goes on, and the rules of the game allow q
 pub record BringsAbout (g : Play) (p : Position) (steps : List Step) (q : Position) : Type 0 where

@@ -4,24 +4,24 @@ ghost use Rattle.arimaa_model.specs.Results.{results};
 ghost use Rattle.arimaa_model.specs.Game.{ended_for, ending_at, lawful_at, stuck_cause};
 
 use arimaa_board::Position;
-use arimaa_history::History;
+use arimaa_history::{Barred, History};
 use arimaa_model::{Cause, Ending, decided};
 use arimaa_results::{Wanted, any_result, first_turn_where};
 
-// Wanted is a position that stands at most once in a history, so that a turn may bring it about.
+// Wanted is a position that is not barred, so that a turn may bring it about.
 #[derive(Clone, Copy)]
 struct Allowed<'a> {
-    history: &'a History,
+    barred: &'a Barred,
 }
 
 impl Wanted for Allowed<'_> {
-    ghost use Rattle.std.specs.Prelude.{nat_le};
-    ghost use Rattle.arimaa_model.specs.Game.{count_in};
+    ghost use Rattle.std.specs.Prelude.{not};
+    ghost use Rattle.arimaa_model.specs.Results.{stands_in};
 
-    ghost passes = { λ wanted reached. nat_le (count_in wanted.history.now reached) 1 };
+    ghost passes = { λ wanted reached. not (stands_in wanted.barred.now reached) };
 
     fn passes(&self, reached: &Position) -> bool {
-        self.history.count(reached) <= 1
+        !self.barred.contains(reached)
     }
 }
 
@@ -40,7 +40,8 @@ fn stuck_cause(p: &Position) -> Cause
 fn stuck_ending(history: &History, p: &Position) -> Option<Ending>
     ensures { result ≡ ended_for p.now None (lawful_at history.now p.now) }
 {
-    if first_turn_where(p, &Allowed { history }).is_some() {
+    let barred = history.barred();
+    if first_turn_where(p, &Allowed { barred }).is_some() {
         return None;
     }
     Some(Ending {

@@ -14,6 +14,9 @@ pub enum GameFault {
     /// The step at this place, from 1, is refused.
     #[error("step {place} of the turn is refused: {fault:?}")]
     Step { place: u8, fault: StepFault },
+    /// A removal mark is missing, wrong or out of place. Only a turn with marks has this fault.
+    #[error("a removal mark is wrong")]
+    Mark,
     /// The steps are no turn.
     #[error("the steps are no turn: {0:?}")]
     Turn(TurnFault),

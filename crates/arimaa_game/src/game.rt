@@ -1,23 +1,24 @@
 //! A game: its positions, and how it has ended.
-ghost use Rattle.std.specs.Prelude.{◌≡◌, ◌↔◌, ℕ, List, Some, None, IfOk, IfErr, IsErr, IsSome, IsTrue, OnOk, OnErr, Option};
+ghost use Rattle.std.specs.Prelude.{◌≡◌, ◌↔◌, ◌≤◌, ℕ, List, Ok, Err, Some, None, false, IfOk, IfErr, IsErr, IsSome, IsTrue, OnOk, OnErr, Option};
 ghost use Rattle.arimaa_board.specs.declared.piece.Color.TheVariants as colors;
 ghost use Rattle.arimaa_board.specs.declared.piece.Piece.{Piece};
 ghost use Rattle.arimaa_board.specs.declared.position.Position.{Position};
 ghost use Rattle.arimaa_board.specs.Fit.{IsFit};
-ghost use Rattle.arimaa_model.specs.Game.{IsLawful, closed_by, ending, present};
+ghost use Rattle.arimaa_board.specs.Noted.{noted_marks, noted_turn};
+ghost use Rattle.arimaa_model.specs.Game.{IsLawful, closed_by, count_in, ending, present};
 ghost use Rattle.arimaa_model.specs.Marks.{marks_right};
 ghost use Rattle.arimaa_model.specs.FirstFaults.{first_fault_in};
 ghost use Rattle.arimaa_game.specs.Setups.{HoldsSetups, board_after_setups, position_after_setups};
 ghost use Rattle.arimaa_game.specs.Faults.{IsFaultOf, rule_of_answer};
-ghost use Rattle.arimaa_game.specs.Play.{BringsAbout, GoesOn, IsGame, begun, closed, ending_of, grown, played, unless_third};
+ghost use Rattle.arimaa_game.specs.Play.{GoesOn, IsGame, Reaches, begun, closed, ending_of, grown, played, played_noted, unless_marked, unless_third};
 
 use crate::ending::ending_at;
 use crate::fault::{GameFault, fault_of};
 use crate::setups::position_after;
-use arimaa_board::{Position, Setup, Turn};
+use arimaa_board::{Noted, Position, Setup, Turn};
 use arimaa_history::History;
-use arimaa_model::{ApplyFault, Ending, Word};
-use arimaa_step::apply;
+use arimaa_model::{Ending, Word};
+use arimaa_step::{Marks, apply, marks_fit};
 use std::alloc::{AllocError, Global};
 use std::marker::Model;
 
@@ -28,8 +29,6 @@ use std::marker::Model;
 #[derive(Drop)]
 pub struct Game {
     history: History,
-    // the last position of the history
-    present: Position,
     // the word that closed the game, which the rules had not ended
     closing: Option<Word>,
     // how the game has ended, by the rules or by the word
@@ -43,26 +42,7 @@ impl Model for Game {
 
     ghost view = { λ g. record { history = g.history; closing = g.closing } };
 
-    ghost invariant = { λ g. IsKept (record { history = g.history; closing = g.closing }) g.present g.ending };
-}
-
-// What a turn brings about, unless it would stand for the third time, or the fault of the turn.
-fn unless_third(
-    history: &History,
-    reached: Result<Position, ApplyFault>,
-) -> Result<Position, GameFault>
-    ensures { result ≡ unless_third history.now reached }
-{
-    match reached {
-        Err(fault) => Err(fault_of(fault)),
-        Ok(position) => {
-            if 2 <= history.count(&position) {
-                Err(GameFault::Repeat)
-            } else {
-                Ok(position)
-            }
-        }
-    }
+    ghost invariant = { λ g. IsKept (record { history = g.history; closing = g.closing }) g.ending };
 }
 
 impl Game {
@@ -88,7 +68,6 @@ impl Game {
         let ending = ending_at(&history, &p);
         Ok(Game {
             history,
-            present: p,
             closing: None,
             ending,
         })
@@ -118,39 +97,79 @@ impl Game {
             → first_fault_in self.old.history p turn.now marks ≡ rule_of_answer result }
     {
         let reached = self.reached(turn)?;
-        match self.add(reached) {
-            Ok(ending) => Ok(ending),
-            Err(_) => Err(GameFault::Memory),
+        self.add(reached)
+    }
+
+    /// Plays a turn with its removal marks, and answers how the game has then ended, if it has.
+    ///
+    /// The faults are those of `play`, and `Mark`, where a mark is missing, wrong or out of place: it comes
+    /// after `Step` and before `Turn`. The game then is as before.
+    pub fn play_noted(&mut self, noted: &Noted) -> Result<Option<Ending>, GameFault>
+        ensures played { OnOk result (GoesOn self.old (noted_turn noted.now) self.new) }
+        ensures ending { IfOk result (λ ended. ended ≡ ending self.new.history) }
+        ensures answer { IfOk result (λ ended. ended ≡ ending_of self.new) }
+        ensures fault { IfErr result (λ e. IsFaultOf (played_noted self.old noted.now) e) }
+        ensures refused { OnErr result (self.new ≡ self.old) }
+
+        // The fault is the first that the rules of the game name.
+        ensures first { (p : Position) → present self.old.history ≡ Some p → ending_of self.old ≡ None
+            → first_fault_in self.old.history p (noted_turn noted.now) (noted_marks noted.now) ≡ rule_of_answer result }
+    {
+        let turn = noted.turn();
+        if marks_fit(&self.now(), noted, Marks::Required) {
+            self.play(&turn)
+        } else {
+            Err(self.fault_of_unmarked(&turn))
         }
     }
 
-    // What a turn brings about, or its fault.
+    // The fault of a turn whose marks are wrong: a step that is refused comes before the marks.
+    fn fault_of_unmarked(&self, turn: &Turn) -> GameFault
+        ensures { unless_marked false (played self.now turn.now) ≡ Err result }
+    {
+        match self.reached(turn) {
+            Err(GameFault::Over) => GameFault::Over,
+            Err(GameFault::Step { place, fault }) => GameFault::Step { place, fault },
+            _ => GameFault::Mark,
+        }
+    }
+
+    // The position that a turn reaches, or what keeps it from reaching one.
     fn reached(&self, turn: &Turn) -> Result<Position, GameFault>
-        ensures answer { result ≡ played self.now turn.now }
-        ensures lawful { IfOk result (λ q. (p : Position) × BringsAbout self.now p turn.now q) }
+        ensures fault { IfErr result (λ e. played self.now turn.now ≡ Err e) }
+        ensures reached { IfOk result (λ q. (p : Position) × Reaches self.now p turn.now q) }
     {
         if self.ending.is_some() {
             return Err(GameFault::Over);
         }
         let _few = turn.steps();
-        unless_third(&self.history, apply(&self.present, turn))
+        match apply(&self.now(), turn) {
+            Ok(position) => Ok(position),
+            Err(fault) => Err(fault_of(fault)),
+        }
     }
 
-    // Adds what a turn brings about, and answers how the game has then ended.
-    fn add(&mut self, reached: Position) -> Result<Option<Ending>, AllocError>
+    // Adds the position that a turn reaches, unless it stands there twice, and answers how the game has
+    // then ended.
+    fn add(&mut self, reached: Position) -> Result<Option<Ending>, GameFault>
         requires running { ending_of self.old ≡ None }
-        requires lawful { IsLawful self.old.history reached }
+        requires lawful { count_in self.old.history reached ≤ 1 → IsLawful self.old.history reached }
         requires fit { IsFit reached.board }
         ensures added { OnOk result (self.new ≡ grown self.old reached) }
+        ensures few { OnOk result (count_in self.old.history reached ≤ 1) }
         ensures ending { IfOk result (λ ended. ended ≡ ending self.new.history) }
         ensures answer { IfOk result (λ ended. ended ≡ ending_of self.new) }
+        ensures fault { IfErr result (λ e. IsFaultOf (unless_third self.old.history (Ok reached)) e) }
         ensures refused { OnErr result (self.new ≡ self.old) }
     {
-        self.history.push(reached)?;
-        let ending = ending_at(&self.history, &reached);
-        self.present = reached;
-        self.ending = ending;
-        Ok(ending)
+        match self.history.push_unless_third(reached) {
+            Ok(true) => {
+                self.ending = ending_at(&self.history, &reached);
+                Ok(self.ending)
+            }
+            Ok(false) => Err(GameFault::Repeat),
+            Err(_) => Err(GameFault::Memory),
+        }
     }
 
     /// Closes the game by a word: the side to move loses. Refused exactly where the game has ended, by `Over`,
@@ -166,7 +185,7 @@ impl Game {
         if self.ending.is_some() {
             return Err(GameFault::Over);
         }
-        let ending = word.against(self.present.side);
+        let ending = word.against(self.now().side);
         self.closing = Some(word);
         self.ending = Some(ending);
         Ok(ending)
@@ -192,7 +211,7 @@ impl Game {
         ensures present { present self.now.history ≡ Some result }
         ensures fit { IsFit result.board }
     {
-        self.present
+        self.history.last().unwrap()
     }
 
     /// The positions alone.

@@ -8,5 +8,6 @@ mod setups;
 #[cfg(test)]
 mod tests;
 
+pub use arimaa_model::{Cause, Ending, Word};
 pub use fault::GameFault;
 pub use game::Game;

@@ -273,7 +273,18 @@ fn plays_turns(rt: HostRuntime) -> Result<(), Fail> {
             }
         }
         assert_eq!(rt; game.history().as_slice().len(), row.positions, "{number}");
-        assert_eq!(rt; game.history().barred().len(), row.barred, "{number}");
+        let barred = game.history().barred().copy(rt.alloc())?;
+        assert_eq!(rt; barred.as_slice().len(), row.barred, "{number}");
+        for p in barred.as_slice() {
+            assert!(rt;
+                barred.contains(p) && 2 <= game.history().count(p),
+                "{number}"
+            );
+        }
+        assert!(rt;
+            barred.contains(&game.now()) == (2 <= game.history().count(&game.now())),
+            "{number}"
+        );
         assert_eq!(rt; game.history().last(), Some(game.now()), "{number}");
     }
     Ok(())

@@ -1,2 +1,3 @@
-pub mod Present
+mod KeyTests
 pub mod Counting
+pub mod Present

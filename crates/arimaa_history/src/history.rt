@@ -1,10 +1,11 @@
 //! The history of a game.
-ghost use Rattle.std.specs.Prelude.{◌≡◌, ◌↔◌, ◌<◌, ◌≤◌, [], ◌∷◌, ◌++◌, OnOk, OnErr, if◌then◌else◌, vec_len, vec_capacity};
+ghost use Rattle.std.specs.Prelude.{◌≡◌, ◌↔◌, ◌<◌, ◌≤◌, [], ◌∷◌, ◌++◌, ◌==◌, ◌+◌, ◌&&◌, IfOk, OnOk, OnErr, false, not, nat_le, if◌then◌else◌};
 ghost use Rattle.arimaa_board.specs.declared.position.Position.{Position};
 ghost use Rattle.arimaa_model.specs.Game.{barred_by, count_in, present};
 ghost use Rattle.arimaa_model.specs.Members.{AreDistinct, Stands};
-ghost use Rattle.arimaa_history.specs.Counts.{count_of};
+ghost use Rattle.arimaa_history.specs.Counts.{IsCounted, count_of};
 
+use crate::barred::Barred;
 use crate::key::Key;
 use arimaa_board::Position;
 use std::alloc::{AllocError, Global};
@@ -16,15 +17,14 @@ use std::marker::Model;
 /// A position is a board with the side to move. One that stands at least twice is barred: no turn may bring
 /// it about any more. A contract sees a history as the list of its positions.
 ///
-/// To count a position takes one search of an ordered map, and to add one takes two, so the time of each grows
-/// with the logarithm of the number of distinct positions.
+/// To count a position or to add one takes one search of an ordered map, whose time grows with the logarithm
+/// of the number of distinct positions.
 #[derive(Drop)]
 pub struct History {
     positions: Vec<Position>,
     // how often each of them stands there
     counts: BTreeMap<Key, u64>,
-    // the barred positions
-    barred: Vec<Position>,
+    barred: Barred,
 }
 
 impl Model for History {
@@ -36,24 +36,27 @@ impl Model for History {
 
     ghost view = { λ h. h.positions.items };
 
-    ghost invariant = { λ h. AreKept h.positions.items h.barred.items h.counts };
+    ghost invariant = { λ h. AreKept h.positions.items h.barred h.counts };
 }
 
-// How often a key is counted.
-fn count_of(counts: &BTreeMap<Key, u64>, key: &Key) -> u64
-    ensures { result ≡ count_of counts.now key.now }
+// Adds a position to a list, and to the barred ones where it stood in the list once.
+fn add(
+    positions: &mut Vec<Position>,
+    barred: &mut Barred,
+    before: u64,
+    p: &Position,
+) -> Result<(), AllocError>
+    ensures positions { OnOk result (positions.new.items ≡ positions.old.items ++ p.now ∷ []) }
+    ensures barred { OnOk result (barred.new ≡ barred.old ++ (if before == 1 then p.now ∷ [] else [])) }
+    ensures refused { OnErr result (positions.new.items ≡ positions.old.items) }
+    ensures kept { OnErr result (barred.new ≡ barred.old) }
 {
-    counts.get(key).copied().unwrap_or(0)
-}
-
-// Adds a position to the barred ones, where it comes to stand twice.
-fn bar(barred: &mut Vec<Position>, second: bool, p: Position)
-    requires { vec_len barred.old < vec_capacity barred.old }
-    ensures { barred.new.items ≡ barred.old.items ++ (if second then p ∷ [] else []) }
-{
-    if second {
-        barred.push(p).unwrap();
+    positions.reserve(1)?;
+    if before == 1 {
+        barred.push(*p)?;
     }
+    positions.push(*p).unwrap();
+    Ok(())
 }
 
 impl History {
@@ -64,8 +67,25 @@ impl History {
         History {
             positions: Vec::new(alloc),
             counts: BTreeMap::new(alloc),
-            barred: Vec::new(alloc),
+            barred: Barred::new(alloc),
         }
+    }
+
+    // Adds a position at the end, unless it stands there `limit` times, and answers whether it was added.
+    #[tactic(auto, using(crate::proofs::Counting::unchanged_counts))]
+    fn push_below(&mut self, p: Position, limit: u64) -> Result<bool, AllocError>
+        ensures added { IfOk result (λ added. added ≡ not (nat_le limit (count_in self.old p))) }
+        ensures pushed { IfOk result (λ added. self.new ≡ (if added then self.old ++ p ∷ [] else self.old)) }
+        ensures below { OnErr result (nat_le limit (count_in self.old p) ≡ (limit == 0)) }
+        ensures refused { OnErr result (self.new ≡ self.old) }
+    {
+        let count = self.counts.entry(Key::of(&p))?.or_insert(0);
+        if limit <= *count {
+            return Ok(false);
+        }
+        add(&mut self.positions, &mut self.barred, *count, &p)?;
+        *count += 1;
+        Ok(true)
     }
 
     /// Adds a position at the end. It fails for want of memory only, and then the history is as before.
@@ -73,22 +93,29 @@ impl History {
         ensures pushed { OnOk result (self.new ≡ self.old ++ p ∷ []) }
         ensures refused { OnErr result (self.new ≡ self.old) }
     {
-        let key = Key::of(&p);
-        let before = count_of(&self.counts, &key);
-        // what may fail comes first, and changes nothing where it does
-        self.positions.reserve(1)?;
-        self.barred.reserve(1)?;
-        self.counts.insert(key, before + 1)?;
-        bar(&mut self.barred, before == 1, p);
-        self.positions.push(p).unwrap();
+        let _few = self.positions.len();
+        self.push_below(p, u64::MAX)?;
         Ok(())
+    }
+
+    /// Adds a position at the end, unless it stands there twice already, and answers whether it was added.
+    ///
+    /// It fails for want of memory only, and only where it would add the position. Where it does not add it,
+    /// the history is as before.
+    pub fn push_unless_third(&mut self, p: Position) -> Result<bool, AllocError>
+        ensures added { IfOk result (λ added. added ≡ not (nat_le 2 (count_in self.old p))) }
+        ensures pushed { IfOk result (λ added. self.new ≡ (if added then self.old ++ p ∷ [] else self.old)) }
+        ensures below { OnErr result (nat_le 2 (count_in self.old p) ≡ false) }
+        ensures refused { OnErr result (self.new ≡ self.old) }
+    {
+        self.push_below(p, 2)
     }
 
     /// How often a position stands in the history, with the same side to move.
     pub fn count(&self, p: &Position) -> u64
         ensures { result ≡ count_in self.now p.now }
     {
-        count_of(&self.counts, &Key::of(p))
+        self.counts.get(&Key::of(p)).copied().unwrap_or(0)
     }
 
     /// The positions in order.
@@ -99,7 +126,7 @@ impl History {
     }
 
     /// Each position that stands at least twice, once, in the order in which they came to stand twice.
-    pub fn barred(&self) -> &[Position]
+    pub fn barred(&self) -> &Barred
         ensures value { result.now ≡ barred_by self.now }
         ensures twice { (q : Position) → Stands result.now q ↔ (2 ≤ count_in self.now q) }
         ensures distinct { AreDistinct result.now }

@@ -1,14 +1,14 @@
-//! Keys for positions in an ordered map.
+//! Keys for positions in a map and in a set.
 ghost use Rattle.std.specs.Prelude.{◌≡◌, IsTrue, ◌↔◌};
 ghost use Rattle.arimaa_board.specs.declared.piece.Color.TheVariants.{Gold};
 ghost use Rattle.arimaa_history.specs.Keys.{is_gold, key_of, position_at};
 
 use arimaa_board::{Color, Position};
 
-/// A position as an ordered map files it: the words of its board, and whether Gold is to move.
-#[derive(Clone, Copy, PartialEq, Eq, PartialOrd, Ord)]
+/// A position as a map files it: the planes of its board, and whether Gold is to move.
+#[derive(Clone, Copy, PartialEq, Eq, PartialOrd, Ord, Hash, Drop)]
 pub struct Key {
-    words: [u64; 4],
+    planes: [u64; 4],
     gold: bool,
 }
 
@@ -29,7 +29,7 @@ impl Key {
         ensures back { position_at result ≡ position.now }
     {
         Key {
-            words: position.board.words(),
+            planes: position.board.planes(),
             gold: is_gold(position.side),
         }
     }

@@ -9,25 +9,25 @@ use Rattle.arimaa_board.specs.Setup.{Lineup}
 use Rattle.arimaa_judge.specs.declared.judging.Judged.{Judged}
 use Rattle.arimaa_judge.specs.declared.judging.Judged.TheVariants.{Bad}
 use Rattle.arimaa_judge.specs.declared.rule.Rule.{Rule}
-use Rattle.arimaa_judge.specs.Stand.{Reading, Stand, after_reading, with_setup_after}
+use Rattle.arimaa_judge.specs.RecordState.{Reading, RecordState, after_reading, with_setup_after}
 use Rattle.arimaa_judge.specs.Rules.{rule_at}
 use Rattle.arimaa_judge.specs.Judged.{IsJudgedFrom, IsOutcome, TakesLine, lawful_of}
 
 -- the first line broke a rule
-pub bad_line : (s t : Stand) (text : List ℕ) (lines : List (List ℕ)) (number : ℕ) (rule : Rule)
+pub bad_line : (s t : RecordState) (text : List ℕ) (lines : List (List ℕ)) (number : ℕ) (rule : Rule)
     → TakesLine s text (Some rule) t → IsJudgedFrom s number (text ∷ lines) (Bad number t.due rule)
 bad_line s t text lines number rule takes =
-    let due : Bad number t.due rule ≡ Bad number s.due rule = ap (λ (x : Stand). Bad number x.due rule) takes.after in
+    let due : Bad number t.due rule ≡ Bad number s.due rule = ap (λ (x : RecordState). Bad number x.due rule) takes.after in
     (takes.reading, takes.read, rw takes.rule due)
 
 -- the first line was accepted
-pub good_line : (s t : Stand) (text : List ℕ) (lines : List (List ℕ)) (number : ℕ) (judged : Judged)
+pub good_line : (s t : RecordState) (text : List ℕ) (lines : List (List ℕ)) (number : ℕ) (judged : Judged)
     → TakesLine s text None t → IsJudgedFrom t (number + 1) lines judged → IsJudgedFrom s number (text ∷ lines) judged
 good_line s t text lines number judged takes later =
     (takes.reading, takes.read, rw takes.rule (rw takes.after at later))
 
 -- a line has at most one turn
-turns_after : (s : Stand) (r : Reading) → (after_reading s r).turns ≤ s.turns + 1
+turns_after : (s : RecordState) (r : Reading) → (after_reading s r).turns ≤ s.turns + 1
 turns_after s (Err f) = omega arith
 turns_after s (Ok line.Blank) = omega arith
 turns_after s (Ok (line.Start number side board)) = omega arith
@@ -39,7 +39,7 @@ turns_after s (Ok (line.Turn number side noted)) = omega arith
 turns_after s (Ok (line.Closing number side word)) = omega arith
 turns_after s (Ok (line.Bare number side)) = omega arith
 
-pub turns_taken : (s t : Stand) (text : List ℕ) → TakesLine s text None t → t.turns ≤ s.turns + 1
+pub turns_taken : (s t : RecordState) (text : List ℕ) → TakesLine s text None t → t.turns ≤ s.turns + 1
 turns_taken s t text takes = rw takes.after (turns_after s takes.reading)
 
 -- two outcomes at a line are one, where those of the later lines are
@@ -49,7 +49,7 @@ one_outcome (Some rule) number due a b later same x y = x ∙ sym y
 one_outcome None number due a b later same x y = same x y
 
 -- these lines have one judgement
-pub one_judgement : LinesApart → (s : Stand) (number : ℕ) (lines : List (List ℕ)) (a b : Judged) → IsJudgedFrom s number lines a → IsJudgedFrom s number lines b → a ≡ b
+pub one_judgement : LinesApart → (s : RecordState) (number : ℕ) (lines : List (List ℕ)) (a b : Judged) → IsJudgedFrom s number lines a → IsJudgedFrom s number lines b → a ≡ b
 one_judgement apart s number [] a b x y = x ∙ sym y
 one_judgement apart s number (l ∷ lines) a b x y =
     let same : y.0 ≡ x.0 = apart l y.0 x.0 y.1 x.1 in
@@ -64,7 +64,7 @@ outcome_number (Some r) here number last at due rule later room next is = let sa
 outcome_number None here number last at due rule later room next is = let more : (here + 1 ≤ number) × (number + 1 ≤ last) = next is in (omega arith, more.1)
 
 -- the first bad line is one of these
-pub bad_number : (s : Stand) (here : ℕ) (lines : List (List ℕ)) (number : ℕ) (due : Label) (rule : Rule)
+pub bad_number : (s : RecordState) (here : ℕ) (lines : List (List ℕ)) (number : ℕ) (due : Label) (rule : Rule)
     → IsJudgedFrom s here lines (Bad number due rule) → (here ≤ number) × (number + 1 ≤ here + length lines)
 bad_number s here [] number due rule is = absurd (cc)
 bad_number s here (l ∷ lines) number due rule is =
@@ -73,5 +73,5 @@ bad_number s here (l ∷ lines) number due rule is =
     (λ x. let more : (here + 1 ≤ number) × (number + 1 ≤ here + 1 + length lines) = next x in (more.0, omega arith)) is.2
 
 -- where no line is left the record is lawful
-pub no_line : (s : Stand) (number : ℕ) (rest : List ℕ) (judged : Judged) → rest ≡ [] → judged ≡ lawful_of s → IsJudgedFrom s number (lines_of rest) judged
+pub no_line : (s : RecordState) (number : ℕ) (rest : List ℕ) (judged : Judged) → rest ≡ [] → judged ≡ lawful_of s → IsJudgedFrom s number (lines_of rest) judged
 no_line s number rest judged none is = rw (none, no_lines) is

@@ -1,4 +1,3 @@
-pub mod FaultLaws
 pub mod TurnLaws
 pub mod Accepting
 pub mod JudgedLines

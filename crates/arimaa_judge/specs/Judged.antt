@@ -10,27 +10,32 @@ use Rattle.arimaa_record.specs.declared.label.Label.{Label}
 use Rattle.arimaa_judge.specs.declared.judging.Judged.{Judged}
 use Rattle.arimaa_judge.specs.declared.judging.Judged.TheVariants.{Lawful, Bad}
 use Rattle.arimaa_judge.specs.declared.rule.Rule.{Rule}
-use Rattle.arimaa_judge.specs.Stand.{Reading, Stand, after_reading, fresh, stand_ending}
-use Rattle.arimaa_judge.specs.Standing.{IsByWord}
+use Rattle.arimaa_judge.specs.RecordState.{Reading, RecordState, after_reading, before_lines, state_ending}
+use Rattle.arimaa_judge.specs.RecordStateInvariant.{IsByWord}
 use Rattle.arimaa_judge.specs.Rules.{rule_at}
 
 -- a record whose lines broke no rule
-abbrev pub lawful_of : Stand → Judged
-lawful_of s = Lawful s.history s.turns (stand_ending s) s.due
+abbrev pub lawful_of : RecordState → Judged
+lawful_of s = Lawful s.history s.turns (state_ending s) s.due
 
 -- the outcome at a line: where it breaks a rule the record is bad there, and else it is what the later lines make it
 abbrev pub IsOutcome : Option Rule → ℕ → Label → Judged → Type 0 → Type 0
 IsOutcome (Some rule) number due judged later = judged ≡ Bad number due rule
 IsOutcome None number due judged later = later
 
--- the judgement of these lines, the first of which has this number, where the record stands so before them
-abbrev pub IsJudgedFrom : Stand → ℕ → List (List ℕ) → Judged → Type 0
+-- the judgement of these lines, the first of which has this number, where this is the state of the record before them
+abbrev pub IsJudgedFrom : RecordState → ℕ → List (List ℕ) → Judged → Type 0
 IsJudgedFrom s number [] judged = judged ≡ lawful_of s
 IsJudgedFrom s number (line ∷ later) judged =
     (r : Reading) × IsLineReading line r × IsOutcome (rule_at s r) number s.due judged (IsJudgedFrom (after_reading s r) (number + 1) later judged)
 
--- what a line does to how a record stands: where it breaks a rule, all stays
-pub record TakesLine (s : Stand) (line : List ℕ) (broken : Option Rule) (later : Stand) : Type 0 where
+-- a line is taken, and leads to the next state, unless it breaks a rule: then all stays
+pub record Accepts (s : RecordState) (due : Option Rule) (next : RecordState) (broken : Option Rule) (later : RecordState) : Type 0 where
+  pub rule : due ≡ broken
+  pub after : later ≡ (if is_some broken then s else next)
+
+-- what a line does to the state of a record: where it breaks a rule, all stays
+pub record TakesLine (s : RecordState) (line : List ℕ) (broken : Option Rule) (later : RecordState) : Type 0 where
   pub reading : Reading
   pub read : IsLineReading line reading
   pub rule : rule_at s reading ≡ broken
@@ -38,7 +43,7 @@ pub record TakesLine (s : Stand) (line : List ℕ) (broken : Option Rule) (later
 
 -- the judgement of an input: its lines are taken in order, counted from 1
 abbrev pub IsJudged : List ℕ → Judged → Type 0
-IsJudged bytes judged = IsJudgedFrom fresh 1 (lines_of bytes) judged
+IsJudged bytes judged = IsJudgedFrom before_lines 1 (lines_of bytes) judged
 
 -- each position of a lawful record's game has a fit board
 abbrev pub HasFitBoards : Judged → Type 0

@@ -1,7 +1,6 @@
-pub mod Stand
-pub mod Standing
+pub mod RecordState
+pub mod RecordStateInvariant
 pub mod Rules
-pub mod Turning
 pub mod Judged
 pub mod Texts
 pub mod Agreement

@@ -2,8 +2,8 @@
 ghost use Rattle.std.specs.Prelude.{IfOk};
 ghost use Rattle.arimaa_judge.specs.Judged.{IsJudged, HasFitBoards, HasLawfulTurns, HasEnding};
 
+use crate::record_state::RecordState;
 use crate::rule::Rule;
-use crate::standing::Standing;
 use arimaa_history::History;
 use arimaa_model::Ending;
 use arimaa_record::{Label, first_line};
@@ -44,19 +44,19 @@ pub fn judge(alloc: Global, bytes: &[u8]) -> Result<Judged, AllocError>
     ensures lawful { IfOk result HasLawfulTurns }
     ensures ended { IfOk result HasEnding }
 {
-    let mut standing = Standing::fresh();
+    let mut state = RecordState::before_lines();
     let mut number: u64 = 0;
     let mut rest = bytes;
     'lines: while let Some((line, after)) = first_line(rest) {
         number += 1;
-        if let Some(rule) = standing.take_line(alloc, line)? {
+        if let Some(rule) = state.take_line(alloc, line)? {
             return Ok(Judged::Bad {
                 line: number,
-                label: standing.due(),
+                label: state.due(),
                 rule,
             });
         }
         rest = after;
     }
-    Ok(standing.judged(alloc))
+    Ok(state.judged(alloc))
 }

@@ -1,16 +1,15 @@
 //! The judge of records: whether a record is lawful, and the first rule that a bad one breaks.
 //!
-//! A record is a list of lines, which are taken in order. Each has to break no rule where the record stands
-//! before it; if it breaks none, it changes how the record stands.
+//! A record is a list of lines, which are taken in order. Each has to break no rule in the state of the
+//! record before it; if it breaks none, it changes that state.
 #![tactic(auto)]
 
+mod game_fault;
 mod judging;
 mod laws;
-mod reading;
+mod record_state;
 mod rule;
-mod standing;
-mod texts;
-mod turning;
+mod text;
 
 pub use arimaa_history::History;
 pub use arimaa_model::Ending;
@@ -18,4 +17,4 @@ pub use arimaa_record::Label;
 pub use judging::{Judged, judge};
 pub use laws::{bad_lines_are_there, judgements_agree};
 pub use rule::Rule;
-pub use texts::{bad_text, lawful_text, push_state};
+pub use text::{bad_text, lawful_text, push_state};

@@ -8,8 +8,8 @@ use Rattle.arimaa_judge.proofs.judging.judge.Given as goal
 abbrev pub invariant-lines : goal.invariant-lines
 invariant-lines l = record {
   bound : l.number + length l.rest ≤ length l.bytes;
-  turns : l.standing.turns ≤ l.number;
-  judged : (judged : Judged) → IsJudgedFrom l.standing (l.number + 1) (lines_of l.rest) judged → IsJudged l.bytes judged;
+  turns : l.state.turns ≤ l.number;
+  judged : (judged : Judged) → IsJudgedFrom l.state (l.number + 1) (lines_of l.rest) judged → IsJudged l.bytes judged;
 }
 
 abbrev pub decreases-lines : goal.decreases-lines

@@ -9,7 +9,7 @@ use Rattle.arimaa_history.proofs.history.History.barred.Goals as goal
 pub returns : goal.returns
 returns c =
     let h : List Position = c.args.self.now in
-    let value : c.deref.result.now ≡ barred_by h = c.deref.ensures.value ∙ (c.self.invariant.barring ∙ ap barred_by c.self.view_is) in
+    let value : c.self.inside.barred ≡ barred_by h = (c.self.invariant.barring ∙ ap barred_by c.self.view_is) in
     record {
       value = value;
       twice = λ q. (λ stands. barred-twice h q (ap (λ (qs : List Position). stands_in qs q) (sym value) ∙ stands), λ many. ap (λ (qs : List Position). stands_in qs q) value ∙ twice-barred h q many);
