@@ -4,3 +4,4 @@ pub mod Cutting
 pub mod Numbers
 pub mod Readings
 pub mod Written
+pub mod FirstBad
