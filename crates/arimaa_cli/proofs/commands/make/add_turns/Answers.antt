@@ -2,6 +2,7 @@ use Rattle.std.proofs.Common.{◌≡◌, ◌+◌, ◌-◌, suc, None, sym, ◌�
 use Rattle.std.specs.Prelude.{Ok, Err}
 use Rattle.arimaa_game.specs.Play.{Play}
 use Rattle.arimaa_model.specs.Game.{barred_by, ending}
+use Rattle.arimaa_model.proofs.Listed.{result-turn}
 use Rattle.arimaa_cli.specs.Commands.Make.{GoesOnAt, IsMadeFrom}
 use Rattle.arimaa_cli.specs.Commands.Make.IsMadeFrom.{crowded, enough, over}
 use Rattle.arimaa_cli.proofs.Generator.{made_on, open_ending, some_next}
@@ -27,6 +28,9 @@ returns-in_default-pick c =
     let made : IsMadeFrom (c.args.asked.turns - c.loop.counter) c.loop.number c.loop.due c.loop.game.history c.loop.text.items (Err c.now-p.result) =
     rw left (crowded _ c.loop.number c.loop.due c.loop.game.history c.loop.text.items c.now-p.result goes (rw same at c.in_default-pick.ensures.crowded)) in
     c.loop.invariant.leads (Err c.now-p.result) made
+
+pub push_turn-requires : goal.push_turn-requires
+push_turn-requires c = result-turn c.now-p.result c.in-Some-pick.picked.turn c.in-Some-pick.picked.reached c.in-Some-pick.ensures.reaches
 
 pub loop-preserved : goal.loop-preserved
 loop-preserved c =
