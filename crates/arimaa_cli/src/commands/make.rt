@@ -140,7 +140,8 @@ fn add_turns(
         }
         number = number_after(number);
         let p = game.now();
-        let Some(picked) = pick(&p, game.history().barred(), number, &mut region) else {
+        let barred = game.history().barred().as_slice();
+        let Some(picked) = pick(&p, barred, number, &mut region) else {
             return Ok(Some(p));
         };
         push_turn(alloc, text, due, &p, &picked.turn)?;

@@ -2,6 +2,7 @@ use Rattle.std.proofs.Common.{◌≡◌, ◌+◌, ◌-◌, suc, None, sym, ◌�
 use Rattle.std.specs.Prelude.{Ok, Err}
 use Rattle.arimaa_game.specs.Play.{Play}
 use Rattle.arimaa_model.specs.Game.{barred_by, ending}
+use Rattle.arimaa_model.proofs.Listed.{result-turn}
 use Rattle.arimaa_cli.specs.Commands.Make.{GoesOnAt, IsMadeFrom}
 use Rattle.arimaa_cli.specs.Commands.Make.IsMadeFrom.{crowded, enough, over}
 use Rattle.arimaa_cli.proofs.Generator.{made_on, open_ending, some_next}
@@ -15,23 +16,26 @@ returns-in-Some c =
 pub pick-requires-clause-some : goal.pick-requires-clause-some
 pick-requires-clause-some c =
     let on : ending c.loop.game.history ≡ None = sym (open_ending c.loop.game c.loop.invariant.unclosed) ∙ sym c.in_default.ensures in
-    let same : c.barred.result.now ≡ barred_by c.loop.game.history = c.barred.ensures.value ∙ ap barred_by c.history.ensures.value in
+    let same : c.as_slice-barred.result.now ≡ barred_by c.loop.game.history = c.as_slice-barred.ensures ∙ c.barred.ensures.value ∙ ap barred_by c.history.ensures.value in
     rw same (some_next c.loop.game.history c.now-p.result on c.now-p.ensures.present)
 
 pub returns-in_default-pick : goal.returns-in_default-pick
 returns-in_default-pick c =
     let on : ending c.loop.game.history ≡ None = sym (open_ending c.loop.game c.loop.invariant.unclosed) ∙ sym c.in_default.ensures in
-    let same : c.barred.result.now ≡ barred_by c.loop.game.history = c.barred.ensures.value ∙ ap barred_by c.history.ensures.value in
+    let same : c.as_slice-barred.result.now ≡ barred_by c.loop.game.history = c.as_slice-barred.ensures ∙ c.barred.ensures.value ∙ ap barred_by c.history.ensures.value in
     let goes : GoesOnAt c.loop.game.history c.now-p.result = record { on = on; last = c.now-p.ensures.present } in
     let left : c.args.asked.turns - c.loop.counter ≡ suc (c.args.asked.turns - (c.loop.counter + 1)) = omega arith in
     let made : IsMadeFrom (c.args.asked.turns - c.loop.counter) c.loop.number c.loop.due c.loop.game.history c.loop.text.items (Err c.now-p.result) =
     rw left (crowded _ c.loop.number c.loop.due c.loop.game.history c.loop.text.items c.now-p.result goes (rw same at c.in_default-pick.ensures.crowded)) in
     c.loop.invariant.leads (Err c.now-p.result) made
 
+pub push_turn-requires : goal.push_turn-requires
+push_turn-requires c = result-turn c.now-p.result c.in-Some-pick.picked.turn c.in-Some-pick.picked.reached c.in-Some-pick.ensures.reaches
+
 pub loop-preserved : goal.loop-preserved
 loop-preserved c =
     let on : ending c.loop.game.history ≡ None = sym (open_ending c.loop.game c.loop.invariant.unclosed) ∙ sym c.in_default.ensures in
-    let same : c.barred.result.now ≡ barred_by c.loop.game.history = c.barred.ensures.value ∙ ap barred_by c.history.ensures.value in
+    let same : c.as_slice-barred.result.now ≡ barred_by c.loop.game.history = c.as_slice-barred.ensures ∙ c.barred.ensures.value ∙ ap barred_by c.history.ensures.value in
     let goes : GoesOnAt c.loop.game.history c.now-p.result = record { on = on; last = c.now-p.ensures.present } in
     let left : c.args.asked.turns - c.loop.counter ≡ suc (c.args.asked.turns - (c.loop.counter + 1)) = omega arith in
     let choice = rw (same, c.number_after-number.ensures) at c.in-Some-pick.ensures.picked in
