@@ -140,7 +140,7 @@ fn add_turns(
         }
         number = number_after(number);
         let p = game.now();
-        let barred = game.history().barred().as_slice();
+        let barred = game.history().barred();
         let Some(picked) = pick(&p, barred, number, &mut region) else {
             return Ok(Some(p));
         };

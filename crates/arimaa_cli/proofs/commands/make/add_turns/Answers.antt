@@ -16,13 +16,13 @@ returns-in-Some c =
 pub pick-requires-clause-some : goal.pick-requires-clause-some
 pick-requires-clause-some c =
     let on : ending c.loop.game.history ≡ None = sym (open_ending c.loop.game c.loop.invariant.unclosed) ∙ sym c.in_default.ensures in
-    let same : c.as_slice-barred.result.now ≡ barred_by c.loop.game.history = c.as_slice-barred.ensures ∙ c.barred.ensures.value ∙ ap barred_by c.history.ensures.value in
+    let same : c.barred-barred.result.now ≡ barred_by c.loop.game.history = c.barred-barred.ensures.value ∙ ap barred_by c.history.ensures.value in
     rw same (some_next c.loop.game.history c.now-p.result on c.now-p.ensures.present)
 
 pub returns-in_default-pick : goal.returns-in_default-pick
 returns-in_default-pick c =
     let on : ending c.loop.game.history ≡ None = sym (open_ending c.loop.game c.loop.invariant.unclosed) ∙ sym c.in_default.ensures in
-    let same : c.as_slice-barred.result.now ≡ barred_by c.loop.game.history = c.as_slice-barred.ensures ∙ c.barred.ensures.value ∙ ap barred_by c.history.ensures.value in
+    let same : c.barred-barred.result.now ≡ barred_by c.loop.game.history = c.barred-barred.ensures.value ∙ ap barred_by c.history.ensures.value in
     let goes : GoesOnAt c.loop.game.history c.now-p.result = record { on = on; last = c.now-p.ensures.present } in
     let left : c.args.asked.turns - c.loop.counter ≡ suc (c.args.asked.turns - (c.loop.counter + 1)) = omega arith in
     let made : IsMadeFrom (c.args.asked.turns - c.loop.counter) c.loop.number c.loop.due c.loop.game.history c.loop.text.items (Err c.now-p.result) =
@@ -35,7 +35,7 @@ push_turn-requires c = result-turn c.now-p.result c.in-Some-pick.picked.turn c.i
 pub loop-preserved : goal.loop-preserved
 loop-preserved c =
     let on : ending c.loop.game.history ≡ None = sym (open_ending c.loop.game c.loop.invariant.unclosed) ∙ sym c.in_default.ensures in
-    let same : c.as_slice-barred.result.now ≡ barred_by c.loop.game.history = c.as_slice-barred.ensures ∙ c.barred.ensures.value ∙ ap barred_by c.history.ensures.value in
+    let same : c.barred-barred.result.now ≡ barred_by c.loop.game.history = c.barred-barred.ensures.value ∙ ap barred_by c.history.ensures.value in
     let goes : GoesOnAt c.loop.game.history c.now-p.result = record { on = on; last = c.now-p.ensures.present } in
     let left : c.args.asked.turns - c.loop.counter ≡ suc (c.args.asked.turns - (c.loop.counter + 1)) = omega arith in
     let choice = rw (same, c.number_after-number.ensures) at c.in-Some-pick.ensures.picked in

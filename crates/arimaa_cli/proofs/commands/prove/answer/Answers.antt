@@ -29,10 +29,10 @@ pub returns-in_ok-from_slice-in-No : goal.returns-in_ok-from_slice-in-No
 returns-in_ok-from_slice-in-No c =
     let here : IsOpenAt c.args.game.now c.in-Some-last.p = record { open_yet = sym c.in_default.ensures; last = sym c.in-Some-last.ensures } in
     rw (c.new-in-No.ensures, c.in_ok-from_slice-in-No.ensures.items)
-    (no_win c.in-Some-last.p here (subst (λ (b : List Position). wins c.args.asked.now.attacker b c.args.asked.now.depth c.in-Some-last.p ≡ false) (c.as_slice-barred.ensures ∙ c.barred.ensures.value) c.in-No.ensures))
+    (no_win c.in-Some-last.p here (subst (λ (b : List Position). wins c.args.asked.now.attacker b c.args.asked.now.depth c.in-Some-last.p ≡ false) c.barred.ensures.value c.in-No.ensures))
 
 pub returns-in_ok-win_text-in-Yes : goal.returns-in_ok-win_text-in-Yes
 returns-in_ok-win_text-in-Yes c =
     let here : IsOpenAt c.args.game.now c.in-Some-last.p = record { open_yet = sym c.in_default.ensures; last = sym c.in-Some-last.ensures } in
-    let right = subst (λ (b : List Position). IsVerdict c.args.asked.now.attacker b c.args.asked.now.depth c.in-Some-last.p (Yes c.in-Yes.rank c.in-Yes.entry)) (c.as_slice-barred.ensures ∙ c.barred.ensures.value) c.in-Yes.ensures in
+    let right = subst (λ (b : List Position). IsVerdict c.args.asked.now.attacker b c.args.asked.now.depth c.in-Some-last.p (Yes c.in-Yes.rank c.in-Yes.entry)) c.barred.ensures.value c.in-Yes.ensures in
     rw (c.new-in-Yes.ensures, c.in_ok-win_text-in-Yes.ensures, only_lines c.in-Yes.entry _ right.2) (won c.in-Some-last.p c.in-Yes.rank here right.0 right.1)
