@@ -2,16 +2,24 @@
 # Times, at the last position of each record, a list of results by layers, the walk over all lists of steps that finds
 # nothing, and `prove SIDE 1` where it answers no. Where a yardstick in plain Rust lies in ../shared/yardstick beside the
 # repository, its records are taken, its lists are timed in the same run, and lines `ratio NAME VALUE` give the project's
-# speed over the yardstick's (more is faster). Each figure is the least of some interleaved runs. It needs `rt` on the
-# path. Run it on a machine that does nothing else. ROUNDS sets the number of runs, and NO_PROVE=1 leaves out `prove`.
+# speed over the yardstick's list (more is faster). Each figure is the least processor time of some interleaved runs, each
+# of which makes so many lists or walks that the start of the program counts for little.
+#
+#   bench/results.sh [NAME..]
+#
+# NAME names a record without its ending; all are taken where none is named. It needs `rt` on the path, and for `prove`
+# the built program. ROUNDS sets the number of runs, and NO_PROVE=1 leaves out `prove`.
 set -euo pipefail
 top=$(cd "$(dirname "${BASH_SOURCE[0]}")/.." && pwd)
+. "$top/bench/measure.sh"
 yardstick=$top/../shared/yardstick/yardstick.sh
 rounds=${ROUNDS:-3}
 (cd "$top/crates/arimaa_results_bench" && rt run </dev/null >/dev/null)
 bench=$top/crates/arimaa_results_bench/out/arimaa_results_bench
 records=$(mktemp -d)
-trap 'rm -rf "$records"' EXIT
+trap 'rm -rf "$records" "$records".*' EXIT
+[ ! -x "$yardstick" ] || "$yardstick" next <"$top/../shared/yardstick/positions/rabbits.txt" >/dev/null
+[ -n "${NO_PROVE:-}" ] || "$top/arimaa" judge </dev/null >/dev/null
 
 if [ -d "$top/../shared/yardstick/positions" ]; then
   cp "$top"/../shared/yardstick/positions/*.txt "$records"
@@ -51,36 +59,61 @@ position() {
     }' "$1"
 }
 
-# The nanoseconds of processor time that `prove SIDE 1` takes where the answer is no; nothing for the other answers.
-proved() {
-  local side TIMEFORMAT=%U
-  for side in gold silver; do
-    if "$top/arimaa" prove "$side" 1 <"$1" | head -n 1 | grep -q '^no'; then
-      { time "$top/crates/arimaa/out/arimaa" prove "$side" 1 <"$1" >/dev/null; } 2>&1 | awk '{ print "prove", $1 * 1e9 }'
-      return
-    fi
-  done
+# The least processor seconds of one list or walk: runs the bench with so many rounds.
+bench_seconds() {
+  local word=$1 rounds=$2
+  record=/dev/null
+  processor_seconds "$bench" "$word" "$side" "$board" "$rounds" | awk -v rounds="$rounds" '{ printf "%.9f\n", $1 / rounds }'
 }
 
-for record in "$records"/*.txt; do
-  name=$(basename "$record" .txt)
-  { IFS= read -r side; IFS= read -r board; } < <(position "$record")
+# How many lists or walks take about a second, by the least time of ten.
+rounds_for() {
+  "$bench" "$1" "$side" "$board" 10 | awk '{ rounds = int(1e9 / $4); print (rounds < 1 ? 1 : rounds > 100000 ? 100000 : rounds) }'
+}
+
+# The processor seconds of `prove SIDE 1` for a side.
+prove_seconds() {
+  record=$1
+  processor_seconds "$top/crates/arimaa/out/arimaa" prove "$2" 1
+}
+
+# The processor seconds of one of the yardstick's lists: it makes lists for a second and a half, and tells how many a second.
+yardstick_seconds() {
+  record=$1
+  local seconds
+  seconds=$(processor_seconds "$yardstick" next)
+  awk -v seconds="$seconds" '{ printf "%.9f\n", seconds / (1.5 * $6) }' "$record.out"
+}
+
+for path in "$records"/*.txt; do
+  name=$(basename "$path" .txt)
+  [ $# -eq 0 ] || [[ " $* " == *" $name "* ]] || continue
+  { IFS= read -r side; IFS= read -r board; } < <(position "$path")
+  places=$("$bench" list "$side" "$board" 1 | awk '{ print $2 }')
+  lists=$(rounds_for list)
+  walks=$(rounds_for walk)
+  asked=
+  if [ -z "${NO_PROVE:-}" ]; then
+    for attacker in gold silver; do
+      [ -n "$asked" ] || ! ("$top/arimaa" prove "$attacker" 1 <"$path" || true) | head -n 1 | grep -q '^no' || asked=$attacker
+    done
+  fi
   for _ in $(seq "$rounds"); do
-    "$bench" list "$side" "$board" | awk '{ print "list", $4, $2 }'
-    "$bench" walk "$side" "$board" | awk '{ print "walk", $4 }'
-    [ -n "${NO_PROVE:-}" ] || proved "$record"
-    [ ! -x "$yardstick" ] || "$yardstick" next <"$record" | awk '{ print "yardstick", 1e9 / $6 }'
-  done | awk -v name="$name" '
+    echo "list $(bench_seconds list "$lists")"
+    echo "walk $(bench_seconds walk "$walks")"
+    [ -z "$asked" ] || echo "prove $(prove_seconds "$path" "$asked")"
+    [ ! -x "$yardstick" ] || echo "yardstick $(yardstick_seconds "$path")"
+  done | awk -v name="$name" -v places="$places" '
     !($1 in least) || $2 < least[$1] { least[$1] = $2 }
-    $1 == "list" { places = $3 }
     END {
-      printf "%s: %d places, list %.3f ms (%.2f million places a second), walk %.2f ms", name, places,
-        least["list"] / 1e6, places * 1000 / least["list"], least["walk"] / 1e6
-      if ("prove" in least) printf ", prove %.0f ms", least["prove"] / 1e6
-      if ("yardstick" in least) printf ", yardstick %.3f ms", least["yardstick"] / 1e6
+      list = least["list"]
+      printf "%s: %d places, list %.3f ms (%.0f lists and %.2f million places a second), walk %.2f ms", name, places,
+        list * 1e3, 1 / list, places / list / 1e6, least["walk"] * 1e3
+      if ("prove" in least) printf ", prove %.1f ms", least["prove"] * 1e3
+      if ("yardstick" in least) printf ", yardstick %.3f ms", least["yardstick"] * 1e3
       printf "\n"
       if ("yardstick" in least) {
-        printf "ratio list_%s %.3f\n", name, least["yardstick"] / least["list"]
+        printf "ratio list_%s %.3f\n", name, least["yardstick"] / list
         printf "ratio walk_%s %.4f\n", name, least["yardstick"] / least["walk"]
         if (least["prove"] > 0) printf "ratio prove_%s %.5f\n", name, least["yardstick"] / least["prove"]
       }

@@ -4,7 +4,7 @@ ghost use Rattle.arimaa_region.specs.Layout.{IsDistinct};
 ghost use Rattle.arimaa_region.specs.Placing.{IsPlaced};
 ghost use Rattle.arimaa_region.specs.Segments.{below_top, live_of, lowest, segment_of};
 
-use crate::bucket::bucket;
+use crate::bucket::{bucket, buckets_for};
 use crate::finding::find;
 use crate::index::Index;
 use crate::key::Key;
@@ -58,7 +58,7 @@ fn end_of(starts: &[u32; 64], open_segments: u8, live: u32, number: u8) -> u32
 impl<T: Key> Stack<T> {
     /// A stack of so many places, at least one, with no segment open. The value fills the free places.
     ///
-    /// This call alone takes memory: the size of a value and 12 bytes a place.
+    /// This call alone takes memory: the size of a value and 9 bytes a place.
     pub(crate) fn with_room(alloc: Global, free: T, room: u32) -> Result<Stack<T>, AllocError>
         requires { 1 ≤ room }
         ensures room { IfOk result (λ r. r.room ≡ room) }
@@ -91,7 +91,7 @@ impl<T: Key> Stack<T> {
         ensures { IsPlaced T.same self.old value result self.new }
     {
         let first = self.starts[self.open_segments as usize - 1];
-        let bucket = bucket(value.hash_number(), self.room);
+        let bucket = bucket(value.hash_number(), buckets_for(self.room));
         if let Some(place) = find(self.places.as_slice(), &self.index, first, &value, bucket) {
             return Placed::There(place);
         }

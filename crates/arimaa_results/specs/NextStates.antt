@@ -1,10 +1,13 @@
 -- The states that one more step makes, each with its step.
-use Rattle.std.specs.Prelude.{◌≡◌, ℕ, ◌<◌, ◌==◌, Bool, true, false, ◌&&◌, not, List, [], map, Option, None, Some, if◌then◌else◌, ⊤}
+use Rattle.std.specs.Prelude.{◌≡◌, ℕ, ◌<◌, ◌==◌, Bool, true, false, ◌&&◌, not, List, [], ◌++◌, map, Option, None, Some, IfSome, IfNone, Result, IsOk, if◌then◌else◌, ⊤}
 use Rattle.std.specs.List.{flat_map, range_with_len}
 use Rattle.arimaa_board.specs.declared.square.Dir.{Dir}
 use Rattle.arimaa_board.specs.declared.square.Dir.TheVariants.{North, East, South, West}
 use Rattle.arimaa_board.specs.declared.piece.Piece.{Piece}
+use Rattle.std.specs.Option.{option_map, option_to_list}
+use Rattle.arimaa_board.specs.declared.position.Position.{Position}
 use Rattle.arimaa_board.specs.declared.position.Step.{Step}
+use Rattle.arimaa_model.specs.declared.fault.TurnFault.{TurnFault}
 use Rattle.arimaa_board.specs.Board.{at}
 use Rattle.arimaa_board.specs.Masks.{is_in}
 use Rattle.arimaa_board.specs.Square.{directions}
@@ -13,6 +16,7 @@ use Rattle.arimaa_model.specs.Results.{step_of}
 use Rattle.arimaa_step.specs.declared.accepted.AcceptedSteps.{AcceptedSteps}
 use Rattle.arimaa_step.specs.declared.state.TurnState.{TurnState}
 use Rattle.arimaa_step.specs.Accepted.{accepts, mask_towards}
+use Rattle.arimaa_step.specs.Next.{next_answer, next_state, state_end}
 use Rattle.arimaa_results.specs.Ahead.{states_by}
 
 -- the state that a step makes, with the step, in a list
@@ -77,3 +81,18 @@ pub record IsTaken (old : AcceptedSteps) (m : ℕ) (d : Dir) (new : AcceptedStep
 abbrev pub IsFirstTaken : AcceptedSteps → Option (ℕ × Dir) → AcceptedSteps → Type 0
 IsFirstTaken old None new = (new ≡ old) × ((n : ℕ) (e : Dir) → n < 64 → has_step old n e ≡ false)
 IsFirstTaken old (Some s) new = IsTaken old s.0 s.1 new
+
+-- what the ends of turns answer after each of some steps
+abbrev pub ends_of : List (Step × TurnState) → List (Result Position TurnFault)
+ends_of pairs = map (λ pr. state_end pr.1) pairs
+
+-- no step was taken exactly where the state accepts none of them, else the first, with the state that it makes
+pub record IsStepTaken (st : TurnState) (old : AcceptedSteps) (taken : Option Step) (new : AcceptedSteps) : Type 0 where
+  -- the state accepts the step that was taken
+  pub accepted : IfSome taken (λ s. IsOk (next_answer st s))
+  -- and those that are left
+  pub left_accepted : AreAllAccepted st new
+  -- the states by them are the one that the step makes, and then those by the steps that are left
+  pub pairs : pairs_left st old ≡ option_to_list (option_map (λ s. (s, next_state st s)) taken) ++ pairs_left st new
+  -- none is left where none was taken
+  pub none : IfNone taken (pairs_left st old ≡ [])

@@ -2,9 +2,10 @@
 ghost use Rattle.std.specs.Prelude.{◌≡◌, ◌++◌, [], IfNone};
 ghost use Rattle.std.specs.Option.{option_to_list};
 ghost use Rattle.arimaa_board.specs.Masks.{is_in};
-ghost use Rattle.arimaa_results.specs.NextStates.{IsFirstTaken, next_pairs};
+ghost use Rattle.arimaa_results.specs.NextStates.{AreAllAccepted, IsFirstTaken, IsStepTaken, ends_of, next_pairs};
 
-use arimaa_board::{Dir, Square, Step, first_square, without};
+use arimaa_board::{Dir, Position, Square, Step, first_square, without};
+use arimaa_model::TurnFault;
 use arimaa_step::{AcceptedSteps, TurnState};
 use std::marker::Model;
 
@@ -36,6 +37,20 @@ fn take_first(steps: &mut AcceptedSteps) -> Option<(Square, Dir)>
     }
     steps.west = without(steps.west, from);
     Some((from, Dir::West))
+}
+
+// Takes the first of some steps that a state accepts, with its piece.
+fn take_step(state: &TurnState, steps: &mut AcceptedSteps) -> Option<Step>
+    requires { AreAllAccepted state.now steps.old }
+    ensures { IsStepTaken state.now steps.old result steps.new }
+{
+    let Some((from, dir)) = take_first(steps) else {
+        return None;
+    };
+    let Some(piece) = state.board().at(from) else {
+        unreachable!()
+    };
+    Some(Step { piece, from, dir })
 }
 
 /// The states that one more step makes from a state, in the order of the steps, each with its step.
@@ -77,13 +92,20 @@ impl<'a> NextStates<'a> {
         ensures next { self.old ≡ option_to_list result ++ self.new }
         ensures end { IfNone result (self.old ≡ []) }
     {
-        let Some((from, dir)) = take_first(&mut self.steps) else {
+        let Some(step) = take_step(self.state, &mut self.steps) else {
             return None;
         };
-        let Some(piece) = self.state.board().at(from) else {
-            unreachable!()
-        };
-        let step = Step { piece, from, dir };
         Some((step, self.state.make(&step)))
+    }
+
+    /// What the end of the turn answers after the next step, if one is left. The next state isn't made.
+    pub(crate) fn advance_end(&mut self) -> Option<Result<Position, TurnFault>>
+        ensures next { ends_of self.old ≡ option_to_list result ++ ends_of self.new }
+        ensures end { IfNone result (self.old ≡ []) }
+    {
+        let Some(step) = take_step(self.state, &mut self.steps) else {
+            return None;
+        };
+        Some(self.state.finish_after(&step))
     }
 }

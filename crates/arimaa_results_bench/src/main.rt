@@ -1,5 +1,5 @@
 //! Measures lists of results at a position, given by the side to move and a board text: `list` by layers, and `walk` the
-//! walk over all lists of steps that finds nothing.
+//! walk over all lists of steps that finds nothing. Each is made a number of times, and the least time is told.
 #![tactic(auto)]
 
 ghost use Rattle.std.specs.Prelude.{◌≡◌, ◌<◌, length, false};
@@ -11,6 +11,8 @@ use arimaa_results::{Wanted, first_turn_where, results};
 use std::rt::Runtime;
 use std::time::{Duration, Instant};
 use std::{env, io};
+
+const USAGE: &str = "usage: arimaa_results_bench list|walk gold|silver BOARD [ROUNDS]";
 
 // Nothing is wanted.
 struct Nothing;
@@ -56,20 +58,40 @@ fn time_lists(
     Ok((size, least))
 }
 
-fn measure(rt: &(impl Runtime + AllocGlobal), p: &Position, word: &str) -> io::Result<()> {
+// Whether anything was found, and the least time of some walks.
+fn time_walks(
+    rt: &(impl Runtime + AllocGlobal),
+    p: &Position,
+    rounds: u32,
+) -> io::Result<(bool, Duration)> {
+    let mut least = Duration::MAX;
+    let mut found = false;
+    for _ in 0..rounds {
+        let start = Instant::now(rt)?;
+        found = first_turn_where(p, &Nothing).is_some();
+        least = least.min(start.elapsed(rt)?);
+    }
+    Ok((found, least))
+}
+
+fn measure(
+    rt: &(impl Runtime + AllocGlobal),
+    p: &Position,
+    word: &str,
+    rounds: u32,
+) -> io::Result<()> {
     match word {
         "list" => {
-            let (size, least) = time_lists(rt, p, 50)?;
+            let (size, least) = time_lists(rt, p, rounds)?;
             let nanoseconds = least.as_nanos();
             rt.println(format_args!("places {size} nanoseconds {nanoseconds}"))
         }
         "walk" => {
-            let start = Instant::now(rt)?;
-            let found = first_turn_where(p, &Nothing).is_some();
-            let nanoseconds = start.elapsed(rt)?.as_nanos();
+            let (found, least) = time_walks(rt, p, rounds)?;
+            let nanoseconds = least.as_nanos();
             rt.println(format_args!("found {found} nanoseconds {nanoseconds}"))
         }
-        _ => rt.println(format_args!("usage: arimaa_results_bench list|walk gold|silver BOARD")),
+        _ => rt.println(format_args!("{USAGE}")),
     }
 }
 
@@ -77,13 +99,16 @@ fn main(rt: HostRuntime) -> io::Result<()> {
     let word = env::args(&rt)?.nth(1);
     let side = env::args(&rt)?.nth(2);
     let text = env::args(&rt)?.nth(3);
+    let rounds = env::args(&rt)?.nth(4);
     let word = word.as_ref().map_or("", |word| word.as_str());
     let side = match side.as_ref().map_or("", |side| side.as_str()) {
         "silver" => Color::Silver,
         _ => Color::Gold,
     };
+    let rounds = rounds.as_ref().map_or("", |rounds| rounds.as_str());
+    let rounds = rounds.parse::<u32>().unwrap_or(1);
     match read_board(text.as_ref().map_or("", |text| text.as_str()).as_bytes()) {
-        Err(_) => println!(rt; "usage: arimaa_results_bench list|walk gold|silver BOARD"),
-        Ok(board) => measure(&rt, &Position { board, side }, word),
+        Err(_) => println!(rt; "{USAGE}"),
+        Ok(board) => measure(&rt, &Position { board, side }, word, rounds),
     }
 }

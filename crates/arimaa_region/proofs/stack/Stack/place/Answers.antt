@@ -55,7 +55,7 @@ invariant_of-self g c =
     let free : live < r.room = omega (arith, c.len-place.ensures.count, c.self.invariant.fits, c.if-place-self.false) in
     let absent = absent_from_nowhere r.places.items first live p (taken_fit c.self.invariant) nowhere in
     let After : ℕ → Type 0 = λ k. IsSound g.T.Key.hash_of r.room k (set r.places.items c.len-place.result p) c.push.new.self r.starts in
-    subst After (sym one_more) (rw (c.push.ensures, c.bucket-bucket.ensures.value, c.hash_number.ensures, c.len-place.ensures.count) (IsSound-push p free absent (subst Sound one_more c.self.invariant)))
+    subst After (sym one_more) (rw (c.push.ensures, c.bucket-bucket.ensures.value, c.buckets_for.ensures.value, c.hash_number.ensures, c.len-place.ensures.count) (IsSound-push p free absent (subst Sound one_more c.self.invariant)))
 
 pub returns : goal.returns
 returns g c =
