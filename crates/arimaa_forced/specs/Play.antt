@@ -3,7 +3,7 @@ use Rattle.std.specs.Prelude.{◌≡◌, ℕ, zero, suc, List, [], ◌∷◌, �
 use Rattle.arimaa_board.specs.declared.piece.Color.{Color}
 use Rattle.arimaa_board.specs.Board.{same_color}
 use Rattle.arimaa_board.specs.declared.position.Position.{Position}
-use Rattle.arimaa_model.specs.declared.ending.Ending.{Ending}
+use Rattle.arimaa_board.specs.declared.ending.Ending.{Ending}
 use Rattle.arimaa_model.specs.Game.{IsLawfulAt, ending_at, present}
 use Rattle.arimaa_model.specs.Strategies.{Planned, answer_to}
 

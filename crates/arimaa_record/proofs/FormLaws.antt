@@ -17,8 +17,8 @@ use Rattle.arimaa_board.specs.Piece.{capital_of, letter_case}
 use Rattle.arimaa_board.specs.Setup.{Lineup}
 use Rattle.arimaa_board.specs.Text.{reading_of}
 use Rattle.arimaa_board.proofs.ReadingLaws.{IsBoardText-read}
-use Rattle.arimaa_model.specs.declared.ending.Word.{Word}
-use Rattle.arimaa_model.specs.declared.ending.Word.TheVariants.{Resigns, Time}
+use Rattle.arimaa_board.specs.declared.ending.Word.{Word}
+use Rattle.arimaa_board.specs.declared.ending.Word.TheVariants.{Resigns, Time}
 use Rattle.arimaa_notation.specs.declared.fault.NoteFault.{NoteFault}
 use Rattle.arimaa_notation.specs.declared.fault.NoteFault.TheVariants as note
 use Rattle.arimaa_notation.specs.Items.{is_blank, items_of, IsFirstItem}

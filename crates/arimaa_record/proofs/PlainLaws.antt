@@ -16,8 +16,8 @@ use Rattle.arimaa_board.specs.declared.square.Dir.TheVariants.{North, East, Sout
 use Rattle.arimaa_board.specs.declared.turn.NotedStep.{NotedStep}
 use Rattle.arimaa_board.specs.Board.{at}
 use Rattle.arimaa_board.specs.Text.{letter_of_content, places_of, text_of, turned}
-use Rattle.arimaa_model.specs.declared.ending.Word.{Word}
-use Rattle.arimaa_model.specs.declared.ending.Word.TheVariants.{Resigns, Time}
+use Rattle.arimaa_board.specs.declared.ending.Word.{Word}
+use Rattle.arimaa_board.specs.declared.ending.Word.TheVariants.{Resigns, Time}
 use Rattle.arimaa_notation.specs.Items.{is_blank}
 use Rattle.arimaa_notation.specs.Written.{letter_of_dir, text_of_step, text_of_mark, text_of_entry, items_of_mark, items_of_step, items_of_turn, joined}
 use Rattle.arimaa_notation.proofs.WrittenLaws.{letter_seen}

@@ -16,8 +16,8 @@ use Rattle.arimaa_board.specs.Setup.{Lineup, IsLineup}
 use Rattle.arimaa_board.specs.Text.{places_of, text_of}
 use Rattle.arimaa_board.proofs.ReadingLaws.{read_IsBoardText}
 use Rattle.arimaa_board.proofs.TextLaws.{reading_of-text_of}
-use Rattle.arimaa_model.specs.declared.ending.Word.{Word}
-use Rattle.arimaa_model.specs.declared.ending.Word.TheVariants.{Resigns, Time}
+use Rattle.arimaa_board.specs.declared.ending.Word.{Word}
+use Rattle.arimaa_board.specs.declared.ending.Word.TheVariants.{Resigns, Time}
 use Rattle.arimaa_notation.specs.Items.{is_blank, items_of}
 use Rattle.arimaa_notation.specs.Written.{items_of_turn, items_of_entries, joined, text_of_turn, text_of_setup}
 use Rattle.arimaa_notation.specs.Grammar.{IsTurnText, IsSetupText, IsTurnReading, IsSetupReading}

@@ -1,6 +1,6 @@
 //! The reader of lines.
 ghost use Rattle.std.specs.Prelude.{◌≡◌, ◌↔◌, ◌==◌, List, ℕ, [], ◌∷◌, codes, slice_index, IsTrue, Ok, Err, Some};
-ghost use Rattle.arimaa_model.specs.declared.ending.Word.{Word as ClosingWord};
+ghost use Rattle.arimaa_board.specs.declared.ending.Word.{Word as ClosingWord};
 ghost use Rattle.arimaa_notation.specs.Items.{items_of, IsFirstItem};
 ghost use Rattle.arimaa_record.specs.declared.line.RecordLine.{RecordLine as LineValue};
 ghost use Rattle.arimaa_record.specs.declared.fault.LineFault.{LineFault as FaultValue};
