@@ -6,13 +6,16 @@ use Rattle.arimaa_clock.specs.declared.account.Spend.TheVariants.{Kept, Out}
 use Rattle.arimaa_clock.specs.Standing.{Standing}
 use Rattle.arimaa_clock.specs.Reserve.{reserve_after}
 
--- the time has run out: the turn took more than its own time and the reserve, or more than one turn may take
+-- the time has run out: the turn took more than its own time and the reserve, or more than one turn
+-- may take
 abbrev pub IsOut : Standing → ℕ → Type 0
-IsOut a used = (a.control.turn + a.reserve < used) ⊎ ((0 < a.control.limit) × (a.control.limit < used))
+IsOut a used = (a.control.turn + a.reserve < used)
+    ⊎ ((0 < a.control.limit) × (a.control.limit < used))
 
 -- the same, as a test
 abbrev pub is_out : Standing → ℕ → Bool
-is_out a used = nat_lt (a.control.turn + a.reserve) used || (nat_lt 0 a.control.limit && nat_lt a.control.limit used)
+is_out a used = nat_lt (a.control.turn + a.reserve) used
+    || (nat_lt 0 a.control.limit && nat_lt a.control.limit used)
 
 -- an account as it is opened
 abbrev pub opened : Control → Standing
@@ -20,7 +23,8 @@ opened c = record { control = c; reserve = c.reserve }
 
 -- the account after a turn that took so long; one that has run out of time stays as it is
 abbrev pub booked : Standing → ℕ → Standing
-booked a used = if is_out a used then a else record a { reserve = reserve_after a.control a.reserve used }
+booked a used = if is_out a used then a else record a
+    { reserve = reserve_after a.control a.reserve used }
 
 -- what is answered for that turn
 abbrev pub answer_of : Standing → ℕ → Spend

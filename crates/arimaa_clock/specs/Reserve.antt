@@ -16,4 +16,5 @@ grown c reserve used = max reserve (min (reserve + gain_of c used) (ceiling_of c
 
 -- the reserve after a turn in time: it pays for what goes beyond the turn's own time, or it grows
 abbrev pub reserve_after : Control → ℕ → ℕ → ℕ
-reserve_after c reserve used = if nat_le c.turn used then reserve - (used - c.turn) else grown c reserve used
+reserve_after c reserve used = if nat_le c.turn used then reserve -
+    (used - c.turn) else grown c reserve used

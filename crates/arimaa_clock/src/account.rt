@@ -16,8 +16,8 @@ pub enum Spend {
 
 /// One side's time under a time control.
 ///
-/// A turn has its own time. What it takes beyond that is taken from the reserve, and of what it leaves
-/// unused a percentage is added to the reserve.
+/// A turn has its own time. What it takes beyond that is taken from the reserve, and of what it
+/// leaves unused a percentage is added to the reserve.
 #[derive(Debug, Drop)]
 pub struct Account {
     control: Control,
@@ -57,8 +57,8 @@ impl Account {
 
     /// Books a turn that took `used` milliseconds.
     ///
-    /// The time is `Out` where the turn took more than its own time and the whole reserve, or more than the
-    /// control lets one turn take. The account then stays as it was.
+    /// The time is `Out` where the turn took more than its own time and the whole reserve, or more
+    /// than the control lets one turn take. The account then stays as it was.
     pub fn spend(&mut self, used: u64) -> Spend
         ensures out { (result ≡ Spend.Out) ↔ IsOut self.old used }
         ensures answer { result ≡ answer_of self.old used }
@@ -71,7 +71,8 @@ impl Account {
             → reserve + used ≡ self.old.reserve + self.old.control.turn) }
 
         // Over all turns so far the account is the fold of the times that they took.
-        ensures fold { (control : TimeControl) (times : List ℕ) → self.old ≡ account_after control times
+        ensures fold { (control : TimeControl) (times : List ℕ)
+            → self.old ≡ account_after control times
             → self.new ≡ account_after control (times ++ used ∷ []) }
     {
         if self.is_out(used) {

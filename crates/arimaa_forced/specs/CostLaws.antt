@@ -31,7 +31,8 @@ CrowdOneDeeper =
 abbrev pub CostIsSome : Type 0
 CostIsSome = (a : Color) (barred : List Position) (n : ℕ) (p : Position) → 1 ≤ cost a barred n p
 
--- and at most the size, also of a deeper question; a deeper question may cost less, since its look may end sooner
+-- and at most the size, also of a deeper question; a deeper question may cost less, since its look
+-- may end sooner
 abbrev pub CostWithinSize : Type 0
 CostWithinSize =
     (a : Color) (barred : List Position) (j n : ℕ) (p : Position) → j ≤ n

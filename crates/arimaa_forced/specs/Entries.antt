@@ -22,15 +22,18 @@ abbrev pub has_right_marks : Entry → Bool
 has_right_marks e = marks_right e.position.board (noted_turn e.turn) (noted_marks e.turn)
 
 -- the strategy wins from the root p within n turns, and its marks are right
-pub record AcceptsEntries (a : Color) (barred : List Position) (n : ℕ) (s : List Entry) (p : Position) : Type 0 where
+pub record AcceptsEntries (a : Color) (barred : List Position) (n : ℕ) (s : List Entry)
+    (p : Position) : Type 0 where
   pub plain : Accepts a barred n (map planned_of s) p
   pub marked : IsTrue (list_all has_right_marks s)
 
 -- the steps with the right marks
 abbrev pub steps_with_marks : Board → List Step → List NotedStep
 steps_with_marks b [] = []
-steps_with_marks b (s ∷ rest) = record { step = s; mark = removed_by b s } ∷ steps_with_marks (after b s) rest
+steps_with_marks b (s ∷ rest) = record { step = s; mark = removed_by b s } ∷ steps_with_marks
+    (after b s) rest
 
 -- the entry with the right marks
 abbrev pub entry_with_marks : Planned → Entry
-entry_with_marks e = record { position = e.position; rank = e.rank; turn = steps_with_marks e.position.board e.steps }
+entry_with_marks e = record
+    { position = e.position; rank = e.rank; turn = steps_with_marks e.position.board e.steps }

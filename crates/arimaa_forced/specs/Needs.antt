@@ -16,19 +16,25 @@ pub data InTree (barred : List Position) (p : Position) (n : ℕ) : Position →
   root : InTree barred p n p n
   sooner : (q : Position) (k j : ℕ) → InTree barred p n q k → decided q ≡ None → j < k
       → InTree barred p n q j
-  later : (q r : Position) (k j : ℕ) → InTree barred p n q k → decided q ≡ None → Stands (next barred q) r → j < k
+  later : (q r : Position) (k j : ℕ) → InTree barred p n q k → decided q ≡ None
+      → Stands (next barred q) r → j < k
       → InTree barred p n r j
 
--- what is asked about p within up to m turns: p itself, and the next positions up to the first decisive one
-pub data IsAsked (a : Color) (barred : List Position) (p : Position) (m : ℕ) : Position → ℕ → Type 0 where
+-- what is asked about p within up to m turns: p itself, and the next positions up to the first
+-- decisive one
+pub data IsAsked (a : Color) (barred : List Position) (p : Position) (m : ℕ) : Position → ℕ
+    → Type 0 where
   itself : (j : ℕ) → j ≤ m → IsAsked a barred p m p j
   place : (q : Position) (j : ℕ) → decided p ≡ None → j < m → Stands (looked_at a barred j p) q
       → IsAsked a barred p m q j
 
--- the question on q and j is needed for that on p and n: up to the rank of p, and where p is won, for each entry of its strategy
-pub data InNeed (a : Color) (barred : List Position) (p : Position) (n : ℕ) : Position → ℕ → Type 0 where
+-- the question on q and j is needed for that on p and n: up to the rank of p, and where p is won,
+-- for each entry of its strategy
+pub data InNeed (a : Color) (barred : List Position) (p : Position) (n : ℕ) : Position → ℕ
+    → Type 0 where
   deepening : (q : Position) (j : ℕ) → IsAsked a barred p (rank_within a barred n p) q j
       → InNeed a barred p n q j
   playing : (e : Planned) (q : Position) (j : ℕ) → IsTrue (wins a barred n p)
-      → Contains (strategy_of a barred (rank_within a barred n p) p) e → IsAsked a barred e.position e.rank q j
+      → Contains (strategy_of a barred (rank_within a barred n p) p) e
+      → IsAsked a barred e.position e.rank q j
       → InNeed a barred p n q j

@@ -1,9 +1,10 @@
--- What it takes to find out who wins by force: how many questions, and how many positions are held at once.
+-- What it takes to find out who wins by force: how many questions, and how many positions are held
+-- at once.
 use Rattle.std.specs.Prelude.{ℕ, zero, suc, ◌+◌, max, Bool, not, List, [], ◌∷◌, length, Option, None, Some, sum_by, find, if◌then◌else◌}
 use Rattle.arimaa_board.specs.declared.piece.Color.{Color}
 use Rattle.arimaa_board.specs.Board.{same_color}
 use Rattle.arimaa_board.specs.declared.position.Position.{Position}
-use Rattle.arimaa_model.specs.declared.ending.Ending.{Ending}
+use Rattle.arimaa_board.specs.declared.ending.Ending.{Ending}
 use Rattle.arimaa_model.specs.Decided.{decided}
 use Rattle.arimaa_model.specs.Results.{next}
 use Rattle.arimaa_model.specs.Wins.{wins}
@@ -28,9 +29,11 @@ abbrev pub largest : (Position → ℕ) → List Position → ℕ
 largest f [] = 0
 largest f (q ∷ qs) = max (f q) (largest f qs)
 
--- whether a next position q of p is decisive: the attacker wins q within n turns and is to move at p, or does not and isn't
+-- whether a next position q of p is decisive: the attacker wins q within n turns and is to move at
+-- p, or does not and isn't
 abbrev pub is_decisive : Color → List Position → ℕ → Position → Position → Bool
-is_decisive a barred n p q = if same_color p.side a then wins a barred n q else not (wins a barred n q)
+is_decisive a barred n p q = if same_color p.side a then wins a barred n q else not
+    (wins a barred n q)
 
 -- the first decisive next position
 abbrev pub first_decisive : Color → List Position → ℕ → Position → Option Position

@@ -29,19 +29,22 @@ OtherWinsEach =
     (a : Color) (barred : List Position) (n : ℕ) (p : Position) → decided p ≡ None → p.side ≢ a
     → IsTrue (wins a barred (n + 1) p) ↔ EachOf (λ q. IsTrue (wins a barred n q)) (next barred p)
 
--- with a decisive next position it is won just where the attacker is to move, and with none just where the other side is
+-- with a decisive next position it is won just where the attacker is to move, and with none just
+-- where the other side is
 abbrev pub DecisiveDecides : Type 0
 DecisiveDecides =
     (a : Color) (barred : List Position) (n : ℕ) (p : Position) → decided p ≡ None
     → wins a barred (n + 1) p
-    ≡ (if is_some (first_decisive a barred n p) then same_color p.side a else not (same_color p.side a))
+    ≡ (if is_some (first_decisive a barred n p) then same_color p.side a else not
+    (same_color p.side a))
 
 -- the first decisive position is a next position, and decisive
 abbrev pub FirstIsDecisive : Type 0
 FirstIsDecisive =
     (a : Color) (barred : List Position) (n : ℕ) (p q : Position)
     → first_decisive a barred n p ≡ Some q
-    → Stands (next barred p) q × IsTrue (is_decisive a barred n p q) × Stands (looked_at a barred n p) q
+    → Stands (next barred p) q × IsTrue (is_decisive a barred n p q)
+    × Stands (looked_at a barred n p) q
 
 -- no other decisive position is looked at
 abbrev pub LooksAtOne : Type 0

@@ -65,7 +65,8 @@ OwnEntriesAreAccepted =
 abbrev pub EntriesArePlanned : Type 0
 EntriesArePlanned = (s : List Planned) → map planned_of (map entry_with_marks s) ≡ s
 
--- a position's own strategy has an entry just for each position that is met where its entries are played
+-- a position's own strategy has an entry just for each position that is met where its entries are
+-- played
 abbrev pub EntriesAreMet : Type 0
 EntriesAreMet =
     (a : Color) (barred : List Position) (p : Position) (s : List Planned) (q : Position)

@@ -3,8 +3,8 @@ use arimaa_board::{Noted, Position};
 
 /// What the attacker plays at a position.
 ///
-/// It is only what is written. Whether the turn is one of the position, with the right marks, and whether
-/// the rank is exact, are questions of the rules.
+/// It is only what is written. Whether the turn is one of the position, with the right marks, and
+/// whether the rank is exact, are questions of the rules.
 #[derive(Drop)]
 pub struct Entry {
     /// A position with the attacker to move.

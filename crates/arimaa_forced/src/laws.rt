@@ -56,7 +56,8 @@ pub fn needs_are_within_the_root()
     ensures crowd { NeedWithinCrowd }
 {}
 
-/// A need goes as deep as the rank of the root where it is won, and else to the depth that is asked.
+/// A need goes as deep as the rank of the root where it is won, and else to the depth that is
+/// asked.
 pub fn needs_go_to_the_rank()
     ensures to_the_rank { NeedGoesToTheRank }
     ensures to_the_depth { NeedGoesToTheDepth }
@@ -69,7 +70,8 @@ pub fn accepted_strategies_win()
     ensures at_its_rank { AcceptedAtItsRank }
 {}
 
-/// A position's own strategy is accepted with the rank of the position, and wins every play within it.
+/// A position's own strategy is accepted with the rank of the position, and wins every play within
+/// it.
 pub fn own_strategies_are_accepted()
     ensures accepted { OwnIsAccepted }
     ensures rank { OwnHasRank }

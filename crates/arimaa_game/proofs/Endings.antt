@@ -9,8 +9,8 @@ use Rattle.std.proofs.lemmas.List.{get_or_append_left, take-append-le}
 use Rattle.std.proofs.lemmas.List.Elements.{All-push}
 use Rattle.arimaa_board.specs.Fit.{IsFit}
 use Rattle.arimaa_board.specs.declared.position.Position.{Position}
-use Rattle.arimaa_model.specs.declared.ending.Ending.{Ending}
-use Rattle.arimaa_model.specs.declared.ending.Word.{Word}
+use Rattle.arimaa_board.specs.declared.ending.Ending.{Ending}
+use Rattle.arimaa_board.specs.declared.ending.Word.{Word}
 use Rattle.arimaa_model.specs.Decided.{decided}
 use Rattle.arimaa_model.specs.Game.{IsLawful, closed_by, ended_for, ending, ending_at, lawful_at, present}
 use Rattle.arimaa_history.proofs.Present.{present-push}

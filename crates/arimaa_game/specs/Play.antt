@@ -7,8 +7,8 @@ use Rattle.arimaa_board.specs.Noted.{noted_marks, noted_turn}
 use Rattle.arimaa_board.specs.declared.position.Position.{Position}
 use Rattle.arimaa_board.specs.declared.turn.NotedStep.{NotedStep}
 use Rattle.arimaa_board.specs.declared.position.Step.{Step}
-use Rattle.arimaa_model.specs.declared.ending.Ending.{Ending}
-use Rattle.arimaa_model.specs.declared.ending.Word.{Word}
+use Rattle.arimaa_board.specs.declared.ending.Ending.{Ending}
+use Rattle.arimaa_board.specs.declared.ending.Word.{Word}
 use Rattle.arimaa_model.specs.declared.fault.ApplyFault.{ApplyFault}
 use Rattle.arimaa_model.specs.Faults.{applied}
 use Rattle.arimaa_model.specs.Game.{IsLawful, closed_by, count_in, ending, present}

@@ -32,7 +32,7 @@ order-Decides j k = (
   itself k = rw (tied_itself nat_list_cmp_total k.planes, tied_itself bool_cmp_total k.gold) refl
 
 -- and so does their equality
-same-Decides : (j k : Key) → Decides (same_key j k) (j ≡ k)
+pub same-Decides : (j k : Key) → Decides (same_key j k) (j ≡ k)
 same-Decides j k =
     Decides-like (same_key j k)
     (λ parts i. record { planes = parts.0 i; gold = parts.1 i })
@@ -57,3 +57,12 @@ tied_keys = same_test (λ j k. is_eq (order_of j k)) order-Decides
 
 pub same_keys : (p q : Position) → position_at (key_of p) ≡ p → position_at (key_of q) ≡ q → same_key (key_of p) (key_of q) ≡ same_position q p
 same_keys = same_test same_key same-Decides
+
+-- the same, with the positions in the order of their keys
+pub keys_same : (p q : Position) → position_at (key_of p) ≡ p → position_at (key_of q) ≡ q
+    → same_key (key_of p) (key_of q) ≡ same_position p q
+keys_same p q p_back q_back =
+    let turned : Decides (same_position q p) (p ≡ q) =
+        Decides-like (same_position q p) (λ (e : q ≡ p). sym e) (λ (e : p ≡ q). sym e) (same_position-Decides q p) in
+    same_keys p q p_back q_back
+    ∙ same_from_decides (same_position q p) (same_position p q) turned (same_position-Decides p q)

@@ -1,3 +1,3 @@
-mod KeyTests
+pub mod KeyTests
 pub mod Counting
 pub mod Present

@@ -7,3 +7,4 @@ mod key;
 
 pub use barred::Barred;
 pub use history::History;
+pub use key::Key;

@@ -1,7 +1,7 @@
 -- What lines that break no rule bring.
 use Rattle.std.proofs.Common.{◌≡◌, ◌⊎◌, inl, inr, List, Option, None, Some, Ok, Err, ℕ, refl}
 use Rattle.std.specs.Prelude.{IfOk, IfSome}
-use Rattle.arimaa_model.specs.declared.ending.Ending.{Ending}
+use Rattle.arimaa_board.specs.declared.ending.Ending.{Ending}
 use Rattle.arimaa_record.specs.declared.line.RecordLine.{RecordLine}
 use Rattle.arimaa_record.specs.declared.line.RecordLine.TheVariants as line
 use Rattle.arimaa_record.specs.Grammar.{IsLineText, IsLineReading}

@@ -1,7 +1,7 @@
 -- What a record is: lawful, with its game, or bad at its first bad line.
 use Rattle.std.specs.Prelude.{◌≡◌, ◌⊎◌, ℕ, ◌+◌, List, [], ◌∷◌, Option, None, Some, All, is_some, if◌then◌else◌}
 use Rattle.arimaa_board.specs.Fit.{IsFit}
-use Rattle.arimaa_model.specs.declared.ending.Ending.{Ending}
+use Rattle.arimaa_board.specs.declared.ending.Ending.{Ending}
 use Rattle.arimaa_model.specs.Game.{ending}
 use Rattle.arimaa_game.specs.Play.{AreLawful}
 use Rattle.arimaa_record.specs.Grammar.{IsLineReading}

@@ -7,8 +7,8 @@ use Rattle.arimaa_board.specs.declared.position.Position.{Position}
 use Rattle.arimaa_board.specs.declared.position.Step.{Step}
 use Rattle.arimaa_board.specs.Setup.{Lineup}
 use Rattle.arimaa_board.specs.Noted.{noted_turn}
-use Rattle.arimaa_model.specs.declared.ending.Ending.{Ending}
-use Rattle.arimaa_model.specs.declared.ending.Word.{Word}
+use Rattle.arimaa_board.specs.declared.ending.Ending.{Ending}
+use Rattle.arimaa_board.specs.declared.ending.Word.{Word}
 use Rattle.arimaa_model.specs.Faults.{reached_by}
 use Rattle.arimaa_model.specs.Game.{closed_by, ending, present}
 use Rattle.arimaa_model.specs.Wins.{is_nil}

@@ -5,8 +5,8 @@ use Rattle.arimaa_board.specs.declared.piece.Color.TheVariants.{Gold, Silver}
 use Rattle.arimaa_board.specs.declared.position.Position.{Position}
 use Rattle.arimaa_board.specs.Fit.{IsFit}
 use Rattle.arimaa_board.specs.Setup.{Lineup}
-use Rattle.arimaa_model.specs.declared.ending.Ending.{Ending}
-use Rattle.arimaa_model.specs.declared.ending.Word.{Word}
+use Rattle.arimaa_board.specs.declared.ending.Ending.{Ending}
+use Rattle.arimaa_board.specs.declared.ending.Word.{Word}
 use Rattle.arimaa_model.specs.Game.{closed_by}
 use Rattle.arimaa_model.specs.Wins.{is_nil}
 use Rattle.arimaa_game.specs.Play.{Play}

@@ -3,9 +3,9 @@ use Rattle.std.specs.Prelude.{ℕ, List, [], ◌∷◌, ◌++◌, Option, None, 
 use Rattle.std.specs.Fmt.{decimal}
 use Rattle.arimaa_board.specs.declared.piece.Color.{Color}
 use Rattle.arimaa_board.specs.declared.piece.Color.TheVariants.{Gold, Silver}
-use Rattle.arimaa_model.specs.declared.ending.Cause.{Cause}
-use Rattle.arimaa_model.specs.declared.ending.Cause.TheVariants as cause
-use Rattle.arimaa_model.specs.declared.ending.Ending.{Ending}
+use Rattle.arimaa_board.specs.declared.ending.Cause.{Cause}
+use Rattle.arimaa_board.specs.declared.ending.Cause.TheVariants as cause
+use Rattle.arimaa_board.specs.declared.ending.Ending.{Ending}
 use Rattle.arimaa_record.specs.Label.{text_of_label}
 use Rattle.arimaa_record.specs.declared.label.Label.{Label}
 use Rattle.arimaa_judge.specs.declared.judging.Judged.{Judged}

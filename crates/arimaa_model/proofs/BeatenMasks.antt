@@ -13,6 +13,7 @@ use Rattle.arimaa_board.specs.declared.board.Board.{Board}
 use Rattle.arimaa_board.specs.Piece.{piece_of, other_color, strength}
 use Rattle.arimaa_board.specs.Board.{at, same_color, holds_color, has_beside}
 use Rattle.arimaa_board.specs.Masks.{passes, is_beside, holds_kind, holds_above, holds_below}
+use Rattle.arimaa_board.specs.ColorLaws.{same_color-sym}
 use Rattle.arimaa_model.specs.Frozen.{beats, passes_at, any_beside, is_held, is_frozen, is_unfrozen, is_beaten, is_beaten_kind}
 use Rattle.arimaa_model.specs.Moves.{can_push, has_pusher, is_pushable}
 
@@ -21,12 +22,6 @@ enemy_color Gold Gold = refl
 enemy_color Gold Silver = refl
 enemy_color Silver Gold = refl
 enemy_color Silver Silver = refl
-
-color_turned : (c d : Color) → same_color c d ≡ same_color d c
-color_turned Gold Gold = refl
-color_turned Gold Silver = refl
-color_turned Silver Gold = refl
-color_turned Silver Silver = refl
 
 same_or_apart : (c d : Color) → (c ≡ d) ⊎ (same_color c d ≡ false)
 same_or_apart Gold Gold = inl refl
@@ -86,7 +81,7 @@ module _ (b : Board) where
   -- an enemy of a piece that is weaker
   weaker_content : (p : Piece) (m : ℕ) (o : Option Piece) → at b m ≡ o → (holds_color (other_color p.color) (at b m) && holds_below p.kind (at b m)) ≡ passes_at b (λ q. beats p q) (Some m)
   weaker_content p m None e = rw e refl
-  weaker_content p m (Some q) e = rw (e, enemy_color p.color q.color, color_turned q.color p.color) refl
+  weaker_content p m (Some q) e = rw (e, enemy_color p.color q.color, same_color-sym q.color p.color) refl
 
   pub weaker_here : (p : Piece) (m : ℕ) → (holds_color (other_color p.color) (at b m) && holds_below p.kind (at b m)) ≡ passes_at b (λ q. beats p q) (Some m)
   weaker_here p m = weaker_content p m (at b m) refl

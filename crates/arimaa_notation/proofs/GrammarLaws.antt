@@ -29,10 +29,10 @@ front_of_turn (n ∷ ns) (suc k) on = by_mark (λ j. front_of_turn ns j on.1) n.
         (record { step = s; mark = Some m } ∷ rest.0, record { spelled = ap (λ x. text_of_step s ∷ text_of_mark m ∷ x) rest.1.spelled; on_board = ((from, mark), rest.1.on_board) })
 
 -- the first and the rest of equal lists
-head_same : {X : Type 0} {x y : X} {xs ys : List X} → x ∷ xs ≡ y ∷ ys → x ≡ y
+pub head_same : {X : Type 0} {x y : X} {xs ys : List X} → x ∷ xs ≡ y ∷ ys → x ≡ y
 head_same e = cc
 
-tail_same : {X : Type 0} {x y : X} {xs ys : List X} → x ∷ xs ≡ y ∷ ys → xs ≡ ys
+pub tail_same : {X : Type 0} {x y : X} {xs ys : List X} → x ∷ xs ≡ y ∷ ys → xs ≡ ys
 tail_same e = cc
 
 -- no turn begins with a mark

@@ -22,7 +22,7 @@ pub record IsWord (item : List ℕ) : Type 0 where
   pub filled : 0 < length item
   pub seen : AllByRecursion (λ b. 32 < b) item
 
-not_blank : (b : ℕ) → 32 < b → is_blank b ≡ false
+pub not_blank : (b : ℕ) → 32 < b → is_blank b ≡ false
 not_blank b above = grind (arith, nat_tests)
 
 solid : (item : List ℕ) → AllByRecursion (λ b. 32 < b) item → AllByRecursion (λ b. is_blank b ≡ false) item
@@ -40,7 +40,7 @@ items-joined (x ∷ y ∷ ys) all =
     items-item x (32 ∷ joined (y ∷ ys)) all.0.filled (solid_all x all.0) refl
     ∙ ap (λ z. x ∷ z) (items-blank 32 (joined (y ∷ ys)) refl ∙ items-joined (y ∷ ys) all.1)
 
-dir_seen : (d : Dir) → 32 < letter_of_dir d
+pub dir_seen : (d : Dir) → 32 < letter_of_dir d
 dir_seen North = omega arith
 dir_seen East = omega arith
 dir_seen South = omega arith

@@ -60,7 +60,8 @@ all_push : (es : List Entry) (e : Entry) → AllByRecursion (λ x. x.0 < 64) es 
 all_push [] e all one = (one, tt)
 all_push (d ∷ es) e all one = (all.0, all_push es e all.1 one)
 
-all_take : (k : ℕ) (es : List Entry) → AllByRecursion (λ x. x.0 < 64) es → AllByRecursion (λ x. x.0 < 64) (take k es)
+-- the squares of the first entries are on the board
+pub all_take : (k : ℕ) (es : List Entry) → AllByRecursion (λ x. x.0 < 64) es → AllByRecursion (λ x. x.0 < 64) (take k es)
 all_take zero es all = tt
 all_take (suc k) [] all = tt
 all_take (suc k) (e ∷ es) all = (all.0, all_take k es all.1)

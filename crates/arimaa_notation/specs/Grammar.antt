@@ -51,7 +51,8 @@ pub record AreEntries (items : List (List ℕ)) (es : List (ℕ × Piece)) : Typ
   pub spelled : items ≡ items_of_entries es
   pub on_board : AllByRecursion (λ e. e.0 < 64) es
 
--- a text of a setup of this side: its sixteen entries in any order, with any blanks between and at the ends
+-- a text of a setup of this side: its sixteen entries in any order, with any blanks between and at
+-- the ends
 pub record IsSetupText (bytes : List ℕ) (color : Color) (s : Lineup) : Type 0 where
   pub entries : (es : List (ℕ × Piece)) × AreEntries (items_of bytes) es × IsPermutation es s.pairs
   pub side : s.color ≡ color
@@ -68,7 +69,9 @@ AreNoSetup items color = (es : List (ℕ × Piece)) × AreEntries items es × (�
 
 -- what the items of a setup of this side are read as
 abbrev pub IsSetupReading : List (List ℕ) → Color → Result Lineup NoteFault → Type 0
-IsSetupReading items color (Ok s) = ((es : List (ℕ × Piece)) × AreEntries items es × IsPermutation es s.pairs) × (s.color ≡ color) × IsLineup s
+IsSetupReading items color (Ok s) =
+    ((es : List (ℕ × Piece)) × AreEntries items es × IsPermutation es s.pairs) × (s.color ≡ color)
+    × IsLineup s
 IsSetupReading items color (Err (Token number)) = IsFirstBadEntry items number
 IsSetupReading items color (Err Setup) = AreNoSetup items color
 IsSetupReading items color (Err Steps) = ⊥

@@ -7,8 +7,10 @@ use Rattle.arimaa_notation.specs.Grammar.{IsTurnText, IsSetupText}
 
 -- no text is that of two turns
 abbrev pub TurnsApart : Type 0
-TurnsApart = (bytes : List ℕ) (ns ms : List NotedStep) → IsTurnText bytes ns → IsTurnText bytes ms → ns ≡ ms
+TurnsApart = (bytes : List ℕ) (ns ms : List NotedStep) → IsTurnText bytes ns → IsTurnText bytes ms
+    → ns ≡ ms
 
 -- no text is that of two setups of a side
 abbrev pub SetupsApart : Type 0
-SetupsApart = (bytes : List ℕ) (color : Color) (s t : Lineup) → IsSetupText bytes color s → IsSetupText bytes color t → s ≡ t
+SetupsApart = (bytes : List ℕ) (color : Color) (s t : Lineup) → IsSetupText bytes color s
+    → IsSetupText bytes color t → s ≡ t

@@ -65,7 +65,8 @@ abbrev pub before_steps : Option Step → Option (Piece × ℕ) → Option (List
 before_steps (Some s) mark (Some ns) = Some (record { step = s; mark = mark } ∷ ns)
 before_steps _ _ _ = None
 
--- a step before other steps: where the next item is a mark, it is the step's, and the steps after it follow
+-- a step before other steps: where the next item is a mark, it is the step's, and the steps after
+-- it follow
 abbrev pub with_next : Option Step → Option (Piece × ℕ) → Option (List NotedStep)
     → Option (List NotedStep) → Option (List NotedStep)
 with_next step (Some mark) after_mark from_next = before_steps step (Some mark) after_mark

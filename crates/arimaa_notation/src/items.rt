@@ -1,10 +1,10 @@
 //! Items of a text, which blanks separate.
 ghost use Rattle.std.specs.Prelude.{◌≡◌, ◌+◌, ◌≤◌, [], ◌∷◌, length, IfNone, IfSome};
 ghost use Rattle.std.specs.List.{prefix_len, suffix_len, position_or_len};
-ghost use Rattle.arimaa_notation.specs.Items.{is_blank, items_of, IsFirstItem, trimmed, word_of, after_word};
+ghost use Rattle.arimaa_notation.specs.Items.{is_blank, items_of, IsFirstItem, trimmed, without_first_blanks, word_of, after_word};
 
-// Whether a byte is a space or a tab.
-fn is_blank(byte: u8) -> bool
+/// Whether a byte is a blank: a space or a tab.
+pub fn is_blank(byte: u8) -> bool
     ensures { result ≡ is_blank byte }
 {
     byte == b' ' || byte == b'\t'
@@ -38,11 +38,18 @@ fn item_len(bytes: &[u8]) -> usize
     bytes.iter().take_while(|byte| !is_blank(**byte)).count()
 }
 
+/// A text without the blanks at its front. A blank is a space or a tab.
+pub fn trim_start(bytes: &[u8]) -> &[u8]
+    ensures { result.now ≡ without_first_blanks bytes.now }
+{
+    &bytes[blanks_before(bytes)..]
+}
+
 /// A text without the blanks at its ends. A blank is a space or a tab.
 pub fn trim(bytes: &[u8]) -> &[u8]
     ensures { result.now ≡ trimmed bytes.now }
 {
-    let rest = &bytes[blanks_before(bytes)..];
+    let rest = trim_start(bytes);
     &rest[..rest.len() - blanks_after(rest)]
 }
 

@@ -11,7 +11,7 @@ mod turn;
 mod written;
 
 pub use fault::NoteFault;
-pub use items::{first_item, trim};
+pub use items::{first_item, is_blank, trim, trim_start};
 pub use laws::{setups_apart, turns_apart};
 pub use number::read_number;
 pub use setup::read_setup;

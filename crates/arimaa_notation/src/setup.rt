@@ -19,7 +19,8 @@ use arimaa_board::{Color, Piece, Setup, Square};
 /// its sixteen home squares.
 pub fn read_setup(bytes: &[u8], color: Color) -> Result<Setup, NoteFault>
     ensures setup { (s : Lineup) → (result ≡ Ok s) ↔ IsSetupText bytes.now color s }
-    ensures token { (n : ℕ) → (result ≡ Err (NoteFault.Token n)) ↔ IsFirstBadEntry (items_of bytes.now) n }
+    ensures token { (n : ℕ)
+        → (result ≡ Err (NoteFault.Token n)) ↔ IsFirstBadEntry (items_of bytes.now) n }
     ensures no_setup { (result ≡ Err NoteFault.Setup) ↔ AreNoSetup (items_of bytes.now) color }
     ensures no_steps { result ≢ Err NoteFault.Steps }
     ensures value { result_ok result ≡ setup_of_text color bytes.now }

@@ -22,7 +22,8 @@ use arrayvec::ArrayVec;
 /// step. `Steps` is answered where every item is right and there are more than four steps.
 pub fn read_turn(bytes: &[u8]) -> Result<Noted, NoteFault>
     ensures turn { (t : List NotedStepValue) → (result ≡ Ok t) ↔ IsTurnText bytes.now t }
-    ensures token { (n : ℕ) → (result ≡ Err (NoteFault.Token n)) ↔ IsNamedItem (items_of bytes.now) n }
+    ensures token { (n : ℕ)
+        → (result ≡ Err (NoteFault.Token n)) ↔ IsNamedItem (items_of bytes.now) n }
     ensures steps { (result ≡ Err NoteFault.Steps) ↔ AreTooManySteps (items_of bytes.now) }
     ensures no_setup { result ≢ Err NoteFault.Setup }
     ensures value { result_ok result ≡ turn_of_text bytes.now }
@@ -86,7 +87,8 @@ fn mark_len(mark: &Option<(Piece, Square)>) -> usize
 
 // Adds a step and its mark as long as there is room.
 fn keep(steps: &mut ArrayVec<NotedStep, 4>, step: &Step, mark: Option<(Piece, Square)>)
-    ensures { steps.new.items ≡ take 4 (steps.old.items ++ record { step = step.now; mark = mark } ∷ []) }
+    ensures { steps.new.items
+        ≡ take 4 (steps.old.items ++ record { step = step.now; mark = mark } ∷ []) }
 {
     if steps.is_full() {
         return;

@@ -17,12 +17,13 @@ use Rattle.arimaa_board.specs.Piece.{capital_of, letter_case}
 use Rattle.arimaa_board.specs.Setup.{Lineup}
 use Rattle.arimaa_board.specs.Text.{reading_of}
 use Rattle.arimaa_board.proofs.ReadingLaws.{IsBoardText-read}
-use Rattle.arimaa_model.specs.declared.ending.Word.{Word}
-use Rattle.arimaa_model.specs.declared.ending.Word.TheVariants.{Resigns, Time}
+use Rattle.arimaa_board.specs.declared.ending.Word.{Word}
+use Rattle.arimaa_board.specs.declared.ending.Word.TheVariants.{Resigns, Time}
 use Rattle.arimaa_notation.specs.declared.fault.NoteFault.{NoteFault}
 use Rattle.arimaa_notation.specs.declared.fault.NoteFault.TheVariants as note
 use Rattle.arimaa_notation.specs.Items.{is_blank, items_of, IsFirstItem}
 use Rattle.arimaa_notation.specs.Grammar.{AreSteps, AreEntries, IsTurnReading, IsSetupReading}
+pub use Rattle.arimaa_notation.proofs.GrammarLaws.{head_same, tail_same}
 use Rattle.arimaa_notation.proofs.ItemLaws.{items-first}
 use Rattle.arimaa_notation.proofs.WrittenLaws.{size-lineup}
 use Rattle.arimaa_notation.proofs.TurnReading as turns
@@ -33,16 +34,9 @@ use Rattle.arimaa_record.specs.declared.line.RecordLine.TheVariants as line
 use Rattle.arimaa_record.specs.declared.fault.LineFault.{LineFault}
 use Rattle.arimaa_record.specs.declared.fault.LineFault.TheVariants as fault
 use Rattle.arimaa_record.specs.Label.{IsLabel, label_of}
-use Rattle.arimaa_record.specs.Blanks.{trimmed}
+use Rattle.arimaa_notation.specs.Items.{trimmed}
 use Rattle.arimaa_record.specs.Grammar.{IsStartForm, IsLabelled, HasForm, text_of_word, IsLineReading}
 use Rattle.arimaa_record.proofs.LabelLaws.{label_first, same_label}
-
--- the first and the rest of equal lists
-pub head_same : {X : Type 0} {x y : X} {xs ys : List X} → x ∷ xs ≡ y ∷ ys → x ≡ y
-head_same e = cc
-
-pub tail_same : {X : Type 0} {x y : X} {xs ys : List X} → x ∷ xs ≡ y ∷ ys → xs ≡ ys
-tail_same e = cc
 
 -- the first item begins with no blank
 first_solid : (item rest : List ℕ) → 0 < length item → All (λ b. is_blank b ≡ false) item → is_blank (get_or (item ++ rest) 0 0) ≡ false

@@ -1,4 +1,3 @@
-pub mod Numbers
 pub mod LabelForms
 pub mod LineLaws
 pub mod LabelLaws

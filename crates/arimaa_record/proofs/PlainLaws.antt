@@ -1,11 +1,13 @@
 -- Written lines hold no byte below the space.
-use Rattle.std.proofs.Common.{◌≡◌, ℕ, ◌<◌, ◌^◌, List, [], ◌∷◌, ◌++◌, length, map, arith, Option, None, Some, false}
+use Rattle.std.proofs.Common.{◌≡◌, ℕ, ◌<◌, ◌^◌, ◌-◌, List, [], ◌∷◌, ◌++◌, length, map, take, get_or, arith, Option, None, Some, false, refl, ◌∙◌, ap, cond, append_assoc, ne_eqb}
 use Rattle.std.specs.Prelude.{All, codes}
 use Rattle.std.specs.Fmt.{decimal}
-use Rattle.std.specs.List.{AllByRecursion, range_with_len}
+use Rattle.std.specs.List.{AllByRecursion, range_with_len, slice_split}
+use Rattle.std.specs.Str.Lines.{strip_carriage_return}
 use Rattle.std.proofs.lemmas.Bool.Decides.{nat_tests}
 use Rattle.std.proofs.lemmas.Fmt.{decimal_is_IsNumeral}
 use Rattle.std.proofs.lemmas.List.Elements.{All-from_recursion, recursion_from_All, All-from_get_or}
+use Rattle.std.proofs.lemmas.List.Splits.{slice_split_at, length-slice_split}
 use Rattle.std.proofs.lemmas.Str.Parse.{digit_at}
 use Rattle.arimaa_board.specs.declared.board.Board.{Board}
 use Rattle.arimaa_board.specs.declared.piece.Color.{Color}
@@ -16,31 +18,32 @@ use Rattle.arimaa_board.specs.declared.square.Dir.TheVariants.{North, East, Sout
 use Rattle.arimaa_board.specs.declared.turn.NotedStep.{NotedStep}
 use Rattle.arimaa_board.specs.Board.{at}
 use Rattle.arimaa_board.specs.Text.{letter_of_content, places_of, text_of, turned}
-use Rattle.arimaa_model.specs.declared.ending.Word.{Word}
-use Rattle.arimaa_model.specs.declared.ending.Word.TheVariants.{Resigns, Time}
+use Rattle.arimaa_board.specs.declared.ending.Word.{Word}
+use Rattle.arimaa_board.specs.declared.ending.Word.TheVariants.{Resigns, Time}
 use Rattle.arimaa_notation.specs.Items.{is_blank}
 use Rattle.arimaa_notation.specs.Written.{letter_of_dir, text_of_step, text_of_mark, text_of_entry, items_of_mark, items_of_step, items_of_turn, joined}
+use Rattle.arimaa_notation.proofs.ReadingBack.{not_blank, dir_seen}
 use Rattle.arimaa_notation.proofs.WrittenLaws.{letter_seen}
 use Rattle.arimaa_record.specs.declared.label.Label.{Label}
 use Rattle.arimaa_record.specs.declared.line.RecordLine.{RecordLine}
 use Rattle.arimaa_record.specs.declared.line.RecordLine.TheVariants as line
 use Rattle.arimaa_record.specs.Label.{label_of, letter_of_side, text_of_label}
 use Rattle.arimaa_record.specs.Grammar.{text_of_word}
+use Rattle.arimaa_record.specs.Lines.{is_feed, lines_of_pieces, lines_of}
 use Rattle.arimaa_record.specs.Written.{IsInRange, IsWritable, parts_of_line, spaced, text_of_line}
+use Rattle.arimaa_record.proofs.LineLaws.{lines_of_pieces-cons}
 
--- bytes above the space, and bytes that are no line's end
+-- bytes above the space
 abbrev pub IsSeen : List ℕ → Type 0
 IsSeen bytes = AllByRecursion (λ b. 32 < b) bytes
 
+-- bytes that end no line
 abbrev pub IsPlain : List ℕ → Type 0
 IsPlain bytes = AllByRecursion (λ b. 31 < b) bytes
 
 pub plain_seen : (bytes : List ℕ) → IsSeen bytes → IsPlain bytes
 plain_seen [] all = tt
 plain_seen (b ∷ bs) all = (omega (arith, all.0), plain_seen bs all.1)
-
-not_blank : (b : ℕ) → 32 < b → is_blank b ≡ false
-not_blank b above = grind (arith, nat_tests)
 
 pub solid_seen : (bytes : List ℕ) → IsSeen bytes → All (λ b. is_blank b ≡ false) bytes
 solid_seen bytes all = All-from_recursion (λ b. is_blank b ≡ false) bytes (solid bytes all)
@@ -62,7 +65,7 @@ side_seen : (side : Color) → 32 < letter_of_side side
 side_seen Gold = omega arith
 side_seen Silver = omega arith
 
-decimal_seen : (n : ℕ) → n < 2 ^ 64 → IsSeen (decimal n)
+pub decimal_seen : (n : ℕ) → n < 2 ^ 64 → IsSeen (decimal n)
 decimal_seen n small =
     recursion_from_All (λ b. 32 < b) (decimal n)
     (All-from_get_or (λ b. 32 < b) (decimal n) 0 (λ i less. let digit = digit_at (decimal n) i (decimal_is_IsNumeral n small).0.1 less in omega arith))
@@ -77,17 +80,11 @@ label_filled label = filled (decimal label.number)
     filled [] = omega arith
     filled (d ∷ ds) = omega arith
 
-dir_seen : (d : Dir) → 32 < letter_of_dir d
-dir_seen North = omega arith
-dir_seen East = omega arith
-dir_seen South = omega arith
-dir_seen West = omega arith
-
 mark_plain : (m : Option (Piece × ℕ)) → AllByRecursion IsPlain (items_of_mark m)
 mark_plain None = tt
 mark_plain (Some m) = (plain_seen (text_of_mark m) (letter_seen m.0, (omega arith, (omega arith, (omega arith, tt)))), tt)
 
-turn_plain : (ns : List NotedStep) → AllByRecursion IsPlain (items_of_turn ns)
+pub turn_plain : (ns : List NotedStep) → AllByRecursion IsPlain (items_of_turn ns)
 turn_plain [] = tt
 turn_plain (n ∷ ns) =
     all_append IsPlain (items_of_step n) (items_of_turn ns)
@@ -104,7 +101,7 @@ places_plain : (b : Board) → IsPlain (places_of b)
 unfolding places_of
 places_plain b = all_map (λ c. 31 < c) (λ k. letter_of_content (at b (turned k))) (range_with_len 0 64) (λ k. content_plain (at b (turned k)))
 
-board_plain : (b : Board) → IsPlain (text_of b)
+pub board_plain : (b : Board) → IsPlain (text_of b)
 board_plain b = all_append (λ c. 31 < c) (91 ∷ places_of b) (93 ∷ []) (omega arith, places_plain b) (omega arith, tt)
 
 word_plain : (w : Word) → IsPlain (text_of_word w)
@@ -126,10 +123,29 @@ spaced_plain : (parts : List (List ℕ)) → AllByRecursion IsPlain parts → Is
 spaced_plain [] all = tt
 spaced_plain (x ∷ xs) all = all_append (λ b. 31 < b) (32 ∷ x) (spaced xs) (omega arith, all.0) (spaced_plain xs all.1)
 
-joined_plain : (parts : List (List ℕ)) → AllByRecursion IsPlain parts → IsPlain (joined parts)
+pub joined_plain : (parts : List (List ℕ)) → AllByRecursion IsPlain parts → IsPlain (joined parts)
 joined_plain [] all = tt
 joined_plain (x ∷ xs) all = all_append (λ b. 31 < b) x (spaced xs) all.0 (spaced_plain xs all.1)
 
 -- a written line has no byte that ends a line
 pub line_plain : (l : RecordLine) → IsWritable l → IsPlain (text_of_line l)
 line_plain l h = joined_plain (parts_of_line l) (parts_plain l h)
+
+-- a text without line ends is a line
+no_feeds : (bytes : List ℕ) → IsPlain bytes → AllByRecursion (λ b. is_feed b ≡ false) bytes
+no_feeds [] all = tt
+no_feeds (b ∷ bs) all = (ne_eqb b 10 (λ e. omega (arith, all.0)), no_feeds bs all.1)
+
+last_plain : (bytes : List ℕ) → IsPlain bytes → get_or bytes (length bytes - 1) 0 ≡ 13 → ⊥
+last_plain [] all e = omega arith
+last_plain (b ∷ bs) all e = let above : 31 < get_or (b ∷ bs) (length (b ∷ bs) - 1) 0 = All-from_recursion (λ c. 31 < c) (b ∷ bs) all (length (b ∷ bs) - 1) 0 (omega arith) in omega arith
+
+stripped_plain : (bytes : List ℕ) → IsPlain bytes → strip_carriage_return bytes ≡ bytes
+stripped_plain bytes all = ap (λ t. cond t (take (length bytes - 1) bytes) bytes) (ne_eqb _ 13 (last_plain bytes all))
+
+pub first_plain : (bytes rest : List ℕ) → IsPlain bytes → lines_of ((bytes ++ 10 ∷ []) ++ rest) ≡ bytes ∷ lines_of rest
+unfolding lines_of
+first_plain bytes rest all =
+    ap (λ x. lines_of_pieces (slice_split is_feed x)) (append_assoc bytes (10 ∷ []) rest)
+    ∙ (ap lines_of_pieces (slice_split_at is_feed bytes 10 rest (All-from_recursion (λ b. is_feed b ≡ false) bytes (no_feeds bytes all)) refl)
+    ∙ (lines_of_pieces-cons bytes (slice_split is_feed rest) (omega (arith, length-slice_split is_feed rest)) ∙ ap (λ x. x ∷ lines_of rest) (stripped_plain bytes all)))

@@ -1,5 +1,5 @@
 -- Lines that have none of the forms, and those of one form alone.
-use Rattle.std.proofs.Common.{◌≡◌, ◌≢◌, ⊎_elim, zero, suc, ℕ, ◌<◌, List, [], ◌∷◌, length, take, get_or, false, true≢false, sym, ◌∙◌, ap, subst, arith, refl, inl, inr, eq-eqb, Result, Ok, Err}
+use Rattle.std.proofs.Common.{◌≡◌, ◌≢◌, ⊎_elim, zero, suc, ℕ, ◌<◌, List, [], ◌∷◌, length, take, get_or, false, true≢false, sym, ◌∙◌, ap, subst, arith, refl, inl, inr, eq-eqb, None, Some, Result, Ok, Err}
 use Rattle.std.specs.Prelude.{◌==◌, ◌↔◌, codes}
 use Rattle.std.specs.List.{AllByRecursion}
 use Rattle.std.proofs.lemmas.Bool.{cases_lt}
@@ -10,15 +10,17 @@ use Rattle.arimaa_board.specs.Setup.{Lineup}
 use Rattle.arimaa_notation.specs.declared.fault.NoteFault.{NoteFault}
 use Rattle.arimaa_notation.specs.declared.fault.NoteFault.TheVariants.{Token, Steps, Setup}
 use Rattle.arimaa_notation.specs.Items.{items_of, IsFirstItem}
-use Rattle.arimaa_notation.specs.Written.{text_of_entry}
+use Rattle.arimaa_board.specs.declared.ending.Word.{Word}
+use Rattle.arimaa_notation.specs.Written.{text_of_entry, items_of_entries}
 use Rattle.arimaa_notation.specs.Grammar.{AreSteps, AreEntries, IsNamedItem, IsFirstBadEntry}
 use Rattle.arimaa_notation.proofs.ItemLaws.{items-first}
+use Rattle.arimaa_notation.proofs.SetupReading.{all_take}
 use Rattle.arimaa_notation.proofs.TurnReading as turns
 use Rattle.arimaa_record.specs.declared.label.Label.{Label}
 use Rattle.arimaa_record.specs.declared.line.RecordLine.{RecordLine}
 use Rattle.arimaa_record.specs.declared.fault.LineFault.{LineFault}
 use Rattle.arimaa_record.specs.Label.{IsLabel}
-use Rattle.arimaa_record.specs.Grammar.{IsStartForm, IsLabelled, IsNoOtherContent, IsContent, HasForm, IsLineReading}
+use Rattle.arimaa_record.specs.Grammar.{IsStartForm, IsLabelled, IsNoWord, IsNoOtherContent, IsContent, HasForm, IsLineReading, text_of_word}
 use Rattle.arimaa_record.proofs.LabelLaws.{label_first}
 use Rattle.arimaa_record.proofs.FormLaws.{head_same, same_first, same_labelled, one_reading}
 
@@ -107,15 +109,10 @@ pub no_content : (bytes : List ℕ) (label : Label) (items : List (List ℕ)) (f
 no_content bytes label items f token a b h other form = by_content (labelled_form bytes label items h form)
   where
     by_content : IsContent items → ⊥
-    by_content (inl none) = other.some none
+    by_content (inl none) = other.others.some none
     by_content (inr (inl entries)) = other.no_entries entries.0 entries.1
-    by_content (inr (inr (inl steps))) = no_steps items f token a b other.some steps.0 steps.1
-    by_content (inr (inr (inr word))) = other.no_word word.0 word.1
-
-all_take : (n : ℕ) (es : List (ℕ × Piece)) → AllByRecursion (λ e. e.0 < 64) es → AllByRecursion (λ e. e.0 < 64) (take n es)
-all_take zero es all = tt
-all_take (suc n) [] all = tt
-all_take (suc n) (e ∷ es) all = (all.0, all_take n es all.1)
+    by_content (inr (inr (inl steps))) = no_steps items f token a b other.others.some steps.0 steps.1
+    by_content (inr (inr (inr word))) = other.others.no_word word.0 word.1
 
 bad_entries : (items : List (List ℕ)) (number : ℕ) → IsFirstBadEntry items number → (es : List (ℕ × Piece)) → AreEntries items es → ⊥
 bad_entries items number bad es h = bad.bad (take number es) (record { spelled = ap (take number) h.spelled ∙ take-map text_of_entry number es; on_board = all_take number es h.on_board })
@@ -129,3 +126,19 @@ no_entries items Setup token a b es h = b refl
 
 pub err_same : {X : Type 0} {f g : NoteFault} → f ≡ g → ◌≡◌ {A = Result X NoteFault} (Err f) (Err g)
 err_same e = ap Err e
+
+-- a first item that is no word alone
+pub no_word : (text item : List ℕ) (rest : List (List ℕ)) → items_of text ≡ item ∷ rest
+    → ((w : Word) → item ∷ rest ≡ text_of_word w ∷ [] → ⊥) → IsNoWord (items_of text)
+no_word text item rest first never = record {
+  some = λ none. let both : item ∷ rest ≡ [] = sym first ∙ none in cc;
+  no_word = λ w is. never w (sym first ∙ is);
+}
+
+-- the first item of entries has three bytes
+pub no_entry : (text item : List ℕ) (rest : List (List ℕ)) → items_of text ≡ item ∷ rest
+    → (length item ≡ 3 → ⊥) → (es : List (ℕ × Piece)) → AreEntries (items_of text) es → ⊥
+no_entry text item rest first other [] h = let both : item ∷ rest ≡ [] = sym first ∙ h.spelled in cc
+no_entry text item rest first other (e ∷ es) h =
+    let both : item ∷ rest ≡ text_of_entry e ∷ items_of_entries es = sym first ∙ h.spelled in
+    other (ap length (head_same both))

@@ -16,8 +16,8 @@ use Rattle.arimaa_board.specs.Setup.{Lineup, IsLineup}
 use Rattle.arimaa_board.specs.Text.{places_of, text_of}
 use Rattle.arimaa_board.proofs.ReadingLaws.{read_IsBoardText}
 use Rattle.arimaa_board.proofs.TextLaws.{reading_of-text_of}
-use Rattle.arimaa_model.specs.declared.ending.Word.{Word}
-use Rattle.arimaa_model.specs.declared.ending.Word.TheVariants.{Resigns, Time}
+use Rattle.arimaa_board.specs.declared.ending.Word.{Word}
+use Rattle.arimaa_board.specs.declared.ending.Word.TheVariants.{Resigns, Time}
 use Rattle.arimaa_notation.specs.Items.{is_blank, items_of}
 use Rattle.arimaa_notation.specs.Written.{items_of_turn, items_of_entries, joined, text_of_turn, text_of_setup}
 use Rattle.arimaa_notation.specs.Grammar.{IsTurnText, IsSetupText, IsTurnReading, IsSetupReading}
@@ -27,13 +27,13 @@ use Rattle.arimaa_record.specs.declared.label.Label.{Label}
 use Rattle.arimaa_record.specs.declared.line.RecordLine.{RecordLine}
 use Rattle.arimaa_record.specs.declared.line.RecordLine.TheVariants as line
 use Rattle.arimaa_record.specs.Label.{side_of_letter, IsLabel, label_of, letter_of_side, text_of_label}
-use Rattle.arimaa_record.specs.Blanks.{without_last_blanks, trimmed}
+use Rattle.arimaa_notation.specs.Items.{without_last_blanks, trimmed}
 use Rattle.arimaa_record.specs.Lines.{is_feed, lines_of_pieces, lines_of}
 use Rattle.arimaa_record.specs.Grammar.{IsStartForm, IsLabelled, text_of_word, IsLineText}
 use Rattle.arimaa_record.specs.Record.{AreLines}
 use Rattle.arimaa_record.specs.Written.{IsInRange, IsWritable, spaced, text_of_line, ended_line, text_of_record}
 use Rattle.arimaa_record.proofs.LineLaws.{lines_of_pieces-cons, no_lines}
-use Rattle.arimaa_record.proofs.PlainLaws.{IsPlain, solid_seen, label_seen, label_filled, line_plain}
+use Rattle.arimaa_record.proofs.PlainLaws.{solid_seen, first_plain, label_seen, label_filled, line_plain}
 
 side_back : (side : Color) → side_of_letter (letter_of_side side) ≡ Some side
 side_back Gold = refl
@@ -136,25 +136,6 @@ line_back (line.Setup number side setup) p = setup_back number side setup p
 line_back (line.Turn number side noted) p = turn_back number side noted p
 line_back (line.Closing number side word) p = closing_back number side word
 line_back (line.Bare number side) p = bare_back number side
-
--- a text without line ends is a line
-no_feeds : (bytes : List ℕ) → IsPlain bytes → AllByRecursion (λ b. is_feed b ≡ false) bytes
-no_feeds [] all = tt
-no_feeds (b ∷ bs) all = (ne_eqb b 10 (λ e. omega (arith, all.0)), no_feeds bs all.1)
-
-last_plain : (bytes : List ℕ) → IsPlain bytes → get_or bytes (length bytes - 1) 0 ≡ 13 → ⊥
-last_plain [] all e = omega arith
-last_plain (b ∷ bs) all e = let above : 31 < get_or (b ∷ bs) (length (b ∷ bs) - 1) 0 = All-from_recursion (λ c. 31 < c) (b ∷ bs) all (length (b ∷ bs) - 1) 0 (omega arith) in omega arith
-
-stripped_plain : (bytes : List ℕ) → IsPlain bytes → strip_carriage_return bytes ≡ bytes
-stripped_plain bytes all = ap (λ t. cond t (take (length bytes - 1) bytes) bytes) (ne_eqb _ 13 (last_plain bytes all))
-
-first_plain : (bytes rest : List ℕ) → IsPlain bytes → lines_of ((bytes ++ 10 ∷ []) ++ rest) ≡ bytes ∷ lines_of rest
-unfolding lines_of
-first_plain bytes rest all =
-    ap (λ x. lines_of_pieces (slice_split is_feed x)) (append_assoc bytes (10 ∷ []) rest)
-    ∙ (ap lines_of_pieces (slice_split_at is_feed bytes 10 rest (All-from_recursion (λ b. is_feed b ≡ false) bytes (no_feeds bytes all)) refl)
-    ∙ (lines_of_pieces-cons bytes (slice_split is_feed rest) (omega (arith, length-slice_split is_feed rest)) ∙ ap (λ x. x ∷ lines_of rest) (stripped_plain bytes all)))
 
 lines_written : (ls : List RecordLine) → AllByRecursion IsWritable ls → lines_of (text_of_record ls) ≡ map text_of_line ls
 lines_written [] all = no_lines

@@ -3,8 +3,8 @@ use Rattle.std.specs.Prelude.{◌≡◌, ◌≢◌, ◌⊎◌, ℕ, List, [], �
 use Rattle.arimaa_board.specs.declared.piece.Piece.{Piece}
 use Rattle.arimaa_board.specs.declared.turn.NotedStep.{NotedStep}
 use Rattle.arimaa_board.specs.Text.{IsBoardText, reading_of}
-use Rattle.arimaa_model.specs.declared.ending.Word.{Word}
-use Rattle.arimaa_model.specs.declared.ending.Word.TheVariants.{Resigns, Time}
+use Rattle.arimaa_board.specs.declared.ending.Word.{Word}
+use Rattle.arimaa_board.specs.declared.ending.Word.TheVariants.{Resigns, Time}
 use Rattle.arimaa_notation.specs.Items.{items_of, IsFirstItem}
 use Rattle.arimaa_notation.specs.Grammar.{AreSteps, AreEntries, IsTurnReading, IsSetupReading, AreTooManySteps, AreNoSetup}
 use Rattle.arimaa_record.specs.declared.label.Label.{Label}
@@ -13,7 +13,7 @@ use Rattle.arimaa_record.specs.declared.line.RecordLine.TheVariants as line
 use Rattle.arimaa_record.specs.declared.fault.LineFault.{LineFault}
 use Rattle.arimaa_record.specs.declared.fault.LineFault.TheVariants as fault
 use Rattle.arimaa_record.specs.Label.{IsLabel, label_of}
-use Rattle.arimaa_record.specs.Blanks.{trimmed}
+use Rattle.arimaa_notation.specs.Items.{trimmed}
 
 -- a comment: after any blanks the line begins with '#'
 pub record IsComment (bytes : List ℕ) : Type 0 where
@@ -25,7 +25,8 @@ pub record IsComment (bytes : List ℕ) : Type 0 where
 abbrev pub IsBlankLine : List ℕ → Type 0
 IsBlankLine bytes = (items_of bytes ≡ []) ⊎ IsComment bytes
 
--- a start line: the word, a label, and the rest of the line without the blanks at its ends, which may be empty
+-- a start line: the word, a label, and the rest of the line without the blanks at its ends, which
+-- may be empty
 pub record IsStartForm (bytes : List ℕ) (label : Label) (text : List ℕ) : Type 0 where
   pub after : List ℕ
   pub word : IsFirstItem bytes (codes "start") after
@@ -54,11 +55,15 @@ IsContent items =
     ⊎ ((ns : List NotedStep) × AreSteps items ns)
     ⊎ ((w : Word) × (items ≡ text_of_word w ∷ []))
 
+-- what follows a label is not nothing and no word
+pub record IsNoWord (items : List (List ℕ)) : Type 0 where
+  pub some : items ≢ []
+  pub no_word : (w : Word) → items ≢ text_of_word w ∷ []
+
 -- what follows a label is not nothing, no entries and no word
 pub record IsNoOtherContent (items : List (List ℕ)) : Type 0 where
-  pub some : items ≢ []
+  pub others : IsNoWord items
   pub no_entries : (es : List (ℕ × Piece)) → ¬ AreEntries items es
-  pub no_word : (w : Word) → items ≢ text_of_word w ∷ []
 
 -- a line of one of the forms, whatever it says
 abbrev pub HasForm : List ℕ → Type 0
@@ -70,18 +75,26 @@ HasForm bytes =
 -- what a line says, without its end
 abbrev pub IsLineText : List ℕ → RecordLine → Type 0
 IsLineText bytes line.Blank = IsBlankLine bytes
-IsLineText bytes (line.Start number side board) = (text : List ℕ) × IsStartForm bytes (label_of number side) text × IsBoardText text board
-IsLineText bytes (line.Setup number side setup) = (items : List (List ℕ)) × IsLabelled bytes (label_of number side) items × IsSetupReading items side (Ok setup)
-IsLineText bytes (line.Turn number side noted) = (items : List (List ℕ)) × IsLabelled bytes (label_of number side) items × IsTurnReading items (Ok noted)
-IsLineText bytes (line.Closing number side word) = IsLabelled bytes (label_of number side) (text_of_word word ∷ [])
+IsLineText bytes (line.Start number side board) = (text : List ℕ)
+    × IsStartForm bytes (label_of number side) text × IsBoardText text board
+IsLineText bytes (line.Setup number side setup) = (items : List (List ℕ))
+    × IsLabelled bytes (label_of number side) items × IsSetupReading items side (Ok setup)
+IsLineText bytes (line.Turn number side noted) = (items : List (List ℕ))
+    × IsLabelled bytes (label_of number side) items × IsTurnReading items (Ok noted)
+IsLineText bytes (line.Closing number side word) = IsLabelled bytes (label_of number side)
+    (text_of_word word ∷ [])
 IsLineText bytes (line.Bare number side) = IsLabelled bytes (label_of number side) []
 
--- what is wrong with a line: it has none of the forms, its turn has more than four steps, its board text is refused, or its entries are no setup
+-- what is wrong with a line: it has none of the forms, its turn has more than four steps, its board
+-- text is refused, or its entries are no setup
 abbrev pub IsLineFault : List ℕ → LineFault → Type 0
 IsLineFault bytes fault.Text = ¬ HasForm bytes
-IsLineFault bytes (fault.Steps number side) = (items : List (List ℕ)) × IsLabelled bytes (label_of number side) items × AreTooManySteps items
-IsLineFault bytes (fault.BadStart number side why) = (text : List ℕ) × IsStartForm bytes (label_of number side) text × (reading_of text ≡ Err why)
-IsLineFault bytes (fault.BadSetup number side) = (items : List (List ℕ)) × IsLabelled bytes (label_of number side) items × (items ≢ []) × AreNoSetup items side
+IsLineFault bytes (fault.Steps number side) = (items : List (List ℕ))
+    × IsLabelled bytes (label_of number side) items × AreTooManySteps items
+IsLineFault bytes (fault.BadStart number side why) = (text : List ℕ)
+    × IsStartForm bytes (label_of number side) text × (reading_of text ≡ Err why)
+IsLineFault bytes (fault.BadSetup number side) = (items : List (List ℕ))
+    × IsLabelled bytes (label_of number side) items × (items ≢ []) × AreNoSetup items side
 
 -- what a line is read as
 abbrev pub IsLineReading : List ℕ → Result RecordLine LineFault → Type 0

@@ -12,7 +12,8 @@ side_of_letter c =
     else if c == 115 || c == 98 then Some Silver
     else None
 
--- the bytes are this label: a number from 1 to 999,999,999, and directly after it a letter of the side
+-- the bytes are this label: a number from 1 to 999,999,999, and directly after it a letter of the
+-- side
 pub record IsLabel (bytes : List ℕ) (label : Label) : Type 0 where
   pub letter : ℕ
   pub side : side_of_letter letter ≡ Some label.side
@@ -24,10 +25,12 @@ pub record IsLabel (bytes : List ℕ) (label : Label) : Type 0 where
 abbrev pub label_of : ℕ → Color → Label
 label_of number side = record { number = number; side = side }
 
--- the label after Ng is Ns, that after Ns is N + 1 with g, and after 999,999,999s it is this one again
+-- the label after Ng is Ns, that after Ns is N + 1 with g, and after 999,999,999s it is this one
+-- again
 abbrev pub label_after : ℕ → Color → Label
 label_after number Gold = label_of number Silver
-label_after number Silver = if nat_lt number 999999999 then label_of (number + 1) Gold else label_of number Silver
+label_after number Silver = if nat_lt number 999999999 then label_of
+    (number + 1) Gold else label_of number Silver
 
 -- the label that is due after the setup or turn of a label
 abbrev pub next_label : Label → Label

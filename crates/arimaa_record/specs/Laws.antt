@@ -6,4 +6,5 @@ use Rattle.arimaa_record.specs.Grammar.{IsLineReading}
 
 -- no line has two readings
 abbrev pub LinesApart : Type 0
-LinesApart = (bytes : List ℕ) (r s : Result RecordLine LineFault) → IsLineReading bytes r → IsLineReading bytes s → r ≡ s
+LinesApart = (bytes : List ℕ) (r s : Result RecordLine LineFault) → IsLineReading bytes r
+    → IsLineReading bytes s → r ≡ s

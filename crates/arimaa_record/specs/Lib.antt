@@ -1,6 +1,4 @@
-pub mod Number
 pub mod Label
-pub mod Blanks
 pub mod Lines
 pub mod Grammar
 pub mod Written

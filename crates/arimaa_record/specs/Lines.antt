@@ -7,7 +7,8 @@ use Rattle.std.specs.Str.Lines.{strip_carriage_return}
 abbrev pub is_feed : ℕ → Bool
 is_feed b = b == 10
 
--- the lines of what stands between line feeds: each loses one carriage return at its end, and an empty last piece is no line
+-- the lines of what stands between line feeds: each loses one carriage return at its end, and an
+-- empty last piece is no line
 abbrev pub lines_of_pieces : List (List ℕ) → List (List ℕ)
 lines_of_pieces [] = []
 lines_of_pieces (last ∷ []) = if length last == 0 then [] else strip_carriage_return last ∷ []

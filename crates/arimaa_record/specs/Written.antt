@@ -9,13 +9,18 @@ use Rattle.arimaa_record.specs.declared.line.RecordLine.TheVariants as line
 use Rattle.arimaa_record.specs.Label.{label_of, text_of_label}
 use Rattle.arimaa_record.specs.Grammar.{text_of_word}
 
--- what a line is written of: its label, and then the board, or the entries in order of square, or each step with its mark directly after it, or the word
+-- what a line is written of: its label, and then the board, or the entries in order of square, or
+-- each step with its mark directly after it, or the word
 abbrev pub parts_of_line : RecordLine → List (List ℕ)
 parts_of_line line.Blank = []
-parts_of_line (line.Start number side board) = codes "start" ∷ text_of_label (label_of number side) ∷ text_of board ∷ []
-parts_of_line (line.Setup number side setup) = text_of_label (label_of number side) ∷ items_of_entries setup.pairs
-parts_of_line (line.Turn number side noted) = text_of_label (label_of number side) ∷ items_of_turn noted
-parts_of_line (line.Closing number side word) = text_of_label (label_of number side) ∷ text_of_word word ∷ []
+parts_of_line (line.Start number side board) = codes "start" ∷ text_of_label
+    (label_of number side) ∷ text_of board ∷ []
+parts_of_line (line.Setup number side setup) = text_of_label
+    (label_of number side) ∷ items_of_entries setup.pairs
+parts_of_line (line.Turn number side noted) = text_of_label
+    (label_of number side) ∷ items_of_turn noted
+parts_of_line (line.Closing number side word) = text_of_label
+    (label_of number side) ∷ text_of_word word ∷ []
 parts_of_line (line.Bare number side) = text_of_label (label_of number side) ∷ []
 
 -- the written form of a line without its end: its parts with one space between each two
@@ -39,7 +44,8 @@ pub record IsInRange (number : ℕ) : Type 0 where
   pub least : 1 ≤ number
   pub most : number ≤ 999999999
 
--- what is written to be read back: labels in range, fit boards, setups of the label's side, turns with a step
+-- what is written to be read back: labels in range, fit boards, setups of the label's side, turns
+-- with a step
 abbrev pub IsWritable : RecordLine → Type 0
 IsWritable line.Blank = Unit {0}
 IsWritable (line.Start number side board) = IsInRange number × IsFit board

@@ -5,8 +5,8 @@ ghost use Rattle.arimaa_board.specs.declared.piece.Color.{Color as Side};
 ghost use Rattle.arimaa_record.specs.Label.{side_of_letter, label_of, next_label, IsLabel};
 ghost use Rattle.arimaa_record.specs.declared.label.Label.{Label as Due};
 
-use crate::number::read_number;
 use arimaa_board::Color;
+use arimaa_notation::read_number;
 
 /// The greatest number of a label.
 pub const MOST_LABEL: u32 = 999_999_999;
@@ -75,7 +75,8 @@ pub fn read_label(bytes: &[u8]) -> Option<Label>
 
 // The number of a label.
 fn label_number(digits: &[u8]) -> Option<u32>
-    ensures { (n : ℕ) → (result ≡ Some n) ↔ ((1 ≤ n) × (n ≤ MOST_LABEL) × (digits.now ≡ decimal n)) }
+    ensures { (n : ℕ)
+        → (result ≡ Some n) ↔ ((1 ≤ n) × (n ≤ MOST_LABEL) × (digits.now ≡ decimal n)) }
 {
     match read_number(digits) {
         None => None,

@@ -1,24 +1,22 @@
 //! Records of games: what each of their lines says, and how it is written.
 #![tactic(auto)]
 
-mod blanks;
 mod fault;
 mod label;
 mod laws;
 mod line;
 mod lines;
-mod number;
 mod reader;
 mod record;
 mod written;
 
+pub use arimaa_notation::read_number;
 pub use fault::{LineFault, RecordFault};
 pub use label::{Label, MOST_LABEL, read_label};
 pub use laws::lines_apart;
 pub use line::RecordLine;
 pub use lines::first_line;
-pub use number::read_number;
-pub use reader::read_line;
+pub use reader::{is_blank_line, read_line};
 pub use record::{Record, read_record};
 pub use written::{push_label, push_line, record_text};
 

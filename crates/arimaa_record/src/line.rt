@@ -1,11 +1,11 @@
 //! What the lines of a record say.
-use arimaa_board::{Board, Color, Noted, Setup};
-use arimaa_model::Word;
+use arimaa_board::{Board, Color, Noted, Setup, Word};
 
-/// What a line of a record says. All but `Blank` begin with a label: the number of the turn, counted
-/// from 1, and its side.
+/// What a line of a record says. All but `Blank` begin with a label: the number of the turn,
+/// counted from 1, and its side.
 ///
-/// Whether the label is the one due, and whether the rules allow what the line says, is for the judge.
+/// Whether the label is the one due, and whether the rules allow what the line says, is for the
+/// judge.
 #[derive(Drop)]
 pub enum RecordLine {
     /// Nothing: an empty line or a comment.

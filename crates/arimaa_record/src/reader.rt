@@ -1,25 +1,23 @@
 //! The reader of lines.
-ghost use Rattle.std.specs.Prelude.{◌≡◌, ◌↔◌, ◌==◌, List, ℕ, [], ◌∷◌, codes, slice_index, IsTrue, Ok, Err, Some};
-ghost use Rattle.arimaa_model.specs.declared.ending.Word.{Word as ClosingWord};
+ghost use Rattle.std.specs.Prelude.{◌≡◌, ◌↔◌, ◌==◌, List, ℕ, [], ◌∷◌, codes, slice_index, IsTrue, Ok, Err, Some, IfNone, IfSome};
+ghost use Rattle.arimaa_board.specs.declared.ending.Word.{Word as ClosingWord};
 ghost use Rattle.arimaa_notation.specs.Items.{items_of, IsFirstItem};
 ghost use Rattle.arimaa_record.specs.declared.line.RecordLine.{RecordLine as LineValue};
 ghost use Rattle.arimaa_record.specs.declared.fault.LineFault.{LineFault as FaultValue};
-ghost use Rattle.arimaa_record.specs.Grammar.{text_of_word, IsLabelled, IsStartForm, IsNoOtherContent, IsLineText, IsLineFault, IsLineReading};
+ghost use Rattle.arimaa_record.specs.Grammar.{text_of_word, IsBlankLine, IsLabelled, IsStartForm, IsNoWord, IsNoOtherContent, IsLineText, IsLineFault, IsLineReading};
 
-use crate::blanks::trim;
 use crate::fault::LineFault;
 use crate::label::{Label, read_label};
 use crate::line::RecordLine;
-use arimaa_board::read_board;
-use arimaa_model::Word;
-use arimaa_notation::{NoteFault, first_item, read_setup, read_turn};
+use arimaa_board::{Word, read_board};
+use arimaa_notation::{NoteFault, first_item, read_setup, read_turn, trim};
 
 /// What a line of a record says. The bytes are those of the line without its end.
 ///
 /// Items are separated by one or more blanks, which may also stand at both ends. A line without
 /// items is `Blank`, and so is a comment, whose first item begins with `#` and which may hold any
-/// bytes. Else the line is `start`, a label, and a board's text, which is the rest of the line; or it
-/// begins with a label, and after it come entries of a setup, or the steps of a turn with their
+/// bytes. Else the line is `start`, a label, and a board's text, which is the rest of the line; or
+/// it begins with a label, and after it come entries of a setup, or the steps of a turn with their
 /// removal marks, or `resigns` or `time`, or nothing.
 ///
 /// `Text` is answered where the line has none of these forms, `Steps` where a turn has more than
@@ -31,6 +29,28 @@ pub fn read_line(bytes: &[u8]) -> Result<RecordLine, LineFault>
     ensures reading { IsLineReading bytes.now result }
 {
     reading(bytes)
+}
+
+/// Whether a line says nothing: it has only blanks, or it is a comment.
+pub fn is_blank_line(line: &[u8]) -> bool
+    ensures { IsTrue result ↔ IsBlankLine line.now }
+{
+    match front(line) {
+        None => true,
+        Some(item) => is_comment(item),
+    }
+}
+
+// The first item of a line.
+fn front(line: &[u8]) -> Option<&[u8]>
+    ensures none { IfNone result (items_of line.now ≡ []) }
+    ensures some { IfSome result (λ item. (later : List (List ℕ))
+        × (items_of line.now ≡ item.now ∷ later)) }
+{
+    match first_item(line) {
+        None => None,
+        Some((item, _)) => Some(item),
+    }
 }
 
 // Whether an item begins a comment.
@@ -74,11 +94,11 @@ fn is_without_items(text: &[u8]) -> bool
     }
 }
 
-// The word that is the only item of a text.
-fn read_word(text: &[u8]) -> Option<Word>
-    ensures { (w : ClosingWord) → (result ≡ Some w) ↔ (items_of text.now ≡ text_of_word w ∷ []) }
+// The word that is this item, where no item follows it.
+fn only_word(item: &[u8], rest: &[u8]) -> Option<Word>
+    ensures { (w : ClosingWord) → (result ≡ Some w)
+        ↔ (item.now ∷ items_of rest.now ≡ text_of_word w ∷ []) }
 {
-    let (item, rest) = first_item(text)?;
     let word = word_of(item)?;
     if is_without_items(rest) {
         Some(word)
@@ -108,7 +128,8 @@ fn reading(bytes: &[u8]) -> Result<RecordLine, LineFault>
 
 // What a line says that begins with the word `start`, before this text.
 fn read_start(text: &[u8]) -> Result<RecordLine, LineFault>
-    ensures { (bytes : List ℕ) → IsFirstItem bytes (codes "start") text.now → IsLineReading bytes result }
+    ensures { (bytes : List ℕ) → IsFirstItem bytes (codes "start") text.now
+        → IsLineReading bytes result }
 {
     let Some((item, rest)) = first_item(text) else {
         return Err(LineFault::Text);
@@ -138,17 +159,32 @@ fn board_of_start(label: Label, text: &[u8]) -> Result<RecordLine, LineFault>
     }
 }
 
-// What a line says that begins with a label, before this text.
+// What a line says that begins with a label, before this text. Its first item tells an entry from a
+// step by its length.
 fn read_content(label: Label, text: &[u8]) -> Result<RecordLine, LineFault>
-    ensures { (bytes : List ℕ) → IsLabelled bytes label (items_of text.now) → IsLineReading bytes result }
+    ensures { (bytes : List ℕ) → IsLabelled bytes label (items_of text.now)
+        → IsLineReading bytes result }
 {
     let Label { number, side } = label;
-    if is_without_items(text) {
+    let Some((item, rest)) = first_item(text) else {
         return Ok(RecordLine::Bare { number, side });
-    }
-    if let Some(word) = read_word(text) {
+    };
+    if let Some(word) = only_word(item, rest) {
         return Ok(RecordLine::Closing { number, side, word });
     }
+    if item.len() == 3 {
+        read_entries(label, text)
+    } else {
+        read_steps(label, text)
+    }
+}
+
+// What a line says that begins with a label, where this text after it is not nothing and no word.
+fn read_entries(label: Label, text: &[u8]) -> Result<RecordLine, LineFault>
+    ensures { (bytes : List ℕ) → IsLabelled bytes label (items_of text.now)
+        → IsNoWord (items_of text.now) → IsLineReading bytes result }
+{
+    let Label { number, side } = label;
     match read_setup(text, side) {
         Ok(setup) => Ok(RecordLine::Setup {
             number,

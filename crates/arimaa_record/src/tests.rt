@@ -1,5 +1,7 @@
 //! Records, right ones and ones with a faulty line.
 use crate::{LineFault, RecordFault, read_record, record_text};
+use arimaa_board::{BoardFault, Color};
+use arimaa_notation::NoteFault;
 use std::alloc::{AllocError, Global};
 use std::test::Fail;
 
@@ -195,5 +197,55 @@ fn records_and_faults(rt: HostRuntime) -> Result<(), Fail> {
         let held = is_refused(rt.alloc(), input, *line, word, *number);
         assert!(rt; held, "{input:?}");
     }
+    Ok(())
+}
+
+// What each fault of items, lines and records says.
+#[test]
+fn texts_of_faults(rt: HostRuntime) -> Result<(), Fail> {
+    let alloc = rt.alloc();
+    let notes = [
+        (NoteFault::Token(7), "item 7 is out of place"),
+        (NoteFault::Steps, "more than four steps"),
+        (NoteFault::Setup, "no setup of the side"),
+    ];
+    for (fault, text) in notes.iter() {
+        assert_eq!(rt; format!(in alloc; "{fault}")?.as_str(), *text);
+    }
+    let side = Color::Gold;
+    let lines = [
+        (LineFault::Text, "not a line of a record"),
+        (
+            LineFault::Steps { number: 12, side },
+            "more than four steps in turn 12",
+        ),
+        (
+            LineFault::BadStart {
+                number: 2,
+                side,
+                fault: BoardFault::BadLength,
+            },
+            "the start line of turn 2 has no board",
+        ),
+        (
+            LineFault::BadSetup { number: 1, side },
+            "no setup in line 1",
+        ),
+    ];
+    for (fault, text) in lines.iter() {
+        assert_eq!(rt; format!(in alloc; "{fault}")?.as_str(), *text);
+    }
+    let line = RecordFault::Line {
+        line: 9,
+        fault: LineFault::Text,
+    };
+    assert_eq!(rt;
+        format!(in alloc; "{line}")?.as_str(),
+        "line 9: not a line of a record"
+    );
+    assert_eq!(rt;
+        format!(in alloc; "{}", RecordFault::Memory)?.as_str(),
+        "no memory left"
+    );
     Ok(())
 }

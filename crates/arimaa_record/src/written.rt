@@ -12,8 +12,7 @@ ghost use Rattle.std.specs.List.{AllByRecursion};
 use crate::label::Label;
 use crate::line::RecordLine;
 use crate::record::Record;
-use arimaa_board::{Color, Noted, board_text};
-use arimaa_model::Word;
+use arimaa_board::{Color, Noted, Word, board_text};
 use arimaa_notation::{setup_text, turn_text};
 use std::alloc::{AllocError, Global};
 
@@ -47,8 +46,10 @@ fn push_part(text: &mut Vec<u8>, part: &[u8]) -> Result<(), AllocError>
 
 // Adds a space and the steps of a turn, if it has any.
 fn push_turn(text: &mut Vec<u8>, noted: &Noted) -> Result<(), AllocError>
-    ensures text { OnOk result (text.new.items ≡ text.old.items ++ spaced (items_of_turn noted.now)) }
-    ensures reads_back { OnOk result (0 < length noted.now → IsTurnText (text_of_turn noted.now) noted.now) }
+    ensures text { OnOk result
+        (text.new.items ≡ text.old.items ++ spaced (items_of_turn noted.now)) }
+    ensures reads_back { OnOk result
+        (0 < length noted.now → IsTurnText (text_of_turn noted.now) noted.now) }
 {
     if noted.steps().is_empty() {
         return Ok(());
@@ -69,7 +70,8 @@ fn word_text(word: Word) -> &'static [u8]
 // Adds what a line says.
 fn push_content(alloc: Global, text: &mut Vec<u8>, line: &RecordLine) -> Result<(), AllocError>
     ensures text { OnOk result (text.new.items ≡ text.old.items ++ text_of_line line.now) }
-    ensures reads_back { OnOk result (IsWritable line.now → IsLineText (text_of_line line.now) line.now) }
+    ensures reads_back { OnOk result
+        (IsWritable line.now → IsLineText (text_of_line line.now) line.now) }
 {
     match line {
         RecordLine::Blank => Ok(()),
@@ -110,7 +112,8 @@ fn push_content(alloc: Global, text: &mut Vec<u8>, line: &RecordLine) -> Result<
 /// beginning of the line may have been added.
 pub fn push_line(alloc: Global, text: &mut Vec<u8>, line: &RecordLine) -> Result<(), AllocError>
     ensures text { OnOk result (text.new.items ≡ text.old.items ++ ended_line line.now) }
-    ensures reads_back { OnOk result (IsWritable line.now → IsLineText (text_of_line line.now) line.now) }
+    ensures reads_back { OnOk result
+        (IsWritable line.now → IsLineText (text_of_line line.now) line.now) }
 {
     push_content(alloc, text, line)?;
     text.push(b'\n')?;
@@ -118,8 +121,8 @@ pub fn push_line(alloc: Global, text: &mut Vec<u8>, line: &RecordLine) -> Result
 }
 
 /// The written form of a record: each line's label, a space, and its items with one space between,
-/// ended by a line feed. A start line is `start`, a space, its label, a space, and the board's text.
-/// A blank line is written as an empty one, so comments are lost.
+/// ended by a line feed. A start line is `start`, a space, its label, a space, and the board's
+/// text. A blank line is written as an empty one, so comments are lost.
 ///
 /// It is read back as the same record where each line is `IsWritable`: labels are in range, start
 /// boards are fit, each turn has a step, and each setup is of its label's side.

@@ -16,7 +16,7 @@ use Rattle.arimaa_notation.specs.Items.{items_of, IsFirstItem}
 use Rattle.arimaa_notation.specs.Grammar.{IsTurnText, IsTurnReading}
 use Rattle.arimaa_notation.proofs.ItemLaws.{items-first}
 use Rattle.arimaa_notation.proofs.TurnReading.{take_front, one_reading}
-use Rattle.arimaa_record.specs.Blanks.{without_first_blanks}
+use Rattle.arimaa_notation.specs.Items.{without_first_blanks}
 use Rattle.arimaa_record.specs.Grammar.{IsBlankLine}
 use Rattle.arimaa_record.proofs.FormLaws.{head_same, same_first}
 use Rattle.arimaa_forced.specs.declared.entry.Entry.{Entry}

@@ -8,7 +8,7 @@ use Rattle.arimaa_board.specs.declared.turn.NotedStep.{NotedStep}
 use Rattle.arimaa_board.specs.Text.{IsBoardText}
 use Rattle.arimaa_notation.specs.Items.{is_blank, IsFirstItem}
 use Rattle.arimaa_notation.specs.Grammar.{IsTurnText}
-use Rattle.arimaa_record.specs.Blanks.{without_first_blanks}
+use Rattle.arimaa_notation.specs.Items.{without_first_blanks}
 use Rattle.arimaa_record.specs.Lines.{lines_of}
 use Rattle.arimaa_record.specs.Grammar.{IsBlankLine}
 use Rattle.arimaa_forced.specs.declared.entry.Entry.{Entry}

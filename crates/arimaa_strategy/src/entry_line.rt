@@ -5,7 +5,7 @@ ghost use Rattle.std.specs.List.{prefix_len};
 ghost use Rattle.arimaa_board.specs.declared.board.Board.{Board as Squares};
 ghost use Rattle.arimaa_board.specs.declared.turn.NotedStep.{NotedStep};
 ghost use Rattle.arimaa_notation.specs.Items.{is_blank, items_of};
-ghost use Rattle.arimaa_record.specs.Blanks.{without_first_blanks};
+ghost use Rattle.arimaa_notation.specs.Items.{without_first_blanks};
 ghost use Rattle.arimaa_record.specs.Grammar.{IsBlankLine};
 ghost use Rattle.arimaa_forced.specs.declared.entry.Entry.{Entry as EntryValue};
 ghost use Rattle.arimaa_strategy.specs.Text.{IsBoardAndTurn, IsEntryText};

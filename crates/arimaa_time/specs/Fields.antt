@@ -40,7 +40,8 @@ pub record AreFields (texts : List (List ℕ)) (c : Control) : Type 0 where
 abbrev pub IsControl : List ℕ → Control → Type 0
 IsControl text c = AreFields (fields text) c
 
--- the text of a field is good: the third is a percentage, the fifth a game limit, each other a time, and there are six
+-- the text of a field is good: the third is a percentage, the fifth a game limit, each other a
+-- time, and there are six
 pub record IsGood (k : ℕ) (text : List ℕ) : Type 0 where
   pub known : k ≤ 6
   pub percent : k ≡ 3 → (n : ℕ) × IsPercent text n

@@ -1,4 +1,5 @@
--- What a field of a time control's text may be, and the value that it stands for. Times are in milliseconds.
+-- What a field of a time control's text may be, and the value that it stands for. Times are in
+-- milliseconds.
 use Rattle.std.specs.Prelude.{◌≡◌, ℕ, ◌+◌, ◌*◌, ◌<◌, ◌≤◌, ◌==◌, ◌⊎◌, List, [], ◌∷◌, ◌++◌, length, if◌then◌else◌}
 use Rattle.std.specs.Str.Parse.{AllDigits, digits_value}
 use Rattle.arimaa_time.specs.declared.units.TimeUnit.{TimeUnit}
@@ -24,7 +25,8 @@ abbrev pub IsPart : ℕ → List ℕ → ℕ → Type 0
 IsPart letter text n = ((text ≡ []) × (n ≡ 0)) ⊎ IsMarked letter text n
 
 -- a part in the first unit, and then parts in the others
-pub record IsSequence (unit : TimeUnit) (Others : List ℕ → ℕ → Type 0) (text : List ℕ) (ms : ℕ) : Type 0 where
+pub record IsSequence (unit : TimeUnit) (Others : List ℕ → ℕ → Type 0) (text : List ℕ)
+    (ms : ℕ) : Type 0 where
   pub front : List ℕ
   pub rest : List ℕ
   pub count : ℕ
@@ -52,8 +54,8 @@ pub record IsClock (text : List ℕ) (sixtieths : ℕ) : Type 0 where
   pub text_is : text ≡ whole_text ++ 58 ∷ part_text
   pub total : sixtieths ≡ 60 * whole + part
 
--- a length of time in one of its three forms: a number, a clock's reading, or one part or more. The sixtieth of what
--- a bare number counts is given
+-- a length of time in one of its three forms: a number, a clock's reading, or one part or more. The
+-- sixtieth of what a bare number counts is given
 pub data IsSpan (sixtieth : ℕ) (units : List TimeUnit) (text : List ℕ) (ms : ℕ) : Type 0 where
   bare : (n : ℕ) → IsNumber text n → ms ≡ n * (60 * sixtieth) → IsSpan sixtieth units text ms
   clock : (n : ℕ) → IsClock text n → ms ≡ n * sixtieth → IsSpan sixtieth units text ms

@@ -1,4 +1,5 @@
--- How a text is read, step by step: what the functions of the reader answer. `proofs/` shows that this is the grammar.
+-- How a text is read, step by step: what the functions of the reader answer. `proofs/` shows that
+-- this is the grammar.
 use Rattle.std.specs.Prelude.{ℕ, Bool, not, ◌+◌, ◌*◌, ◌==◌, ◌&&◌, List, [], ◌∷◌, length, Option, Some, None, option_map, Result, Ok, Err, nat_lt, nat_le, slice_get, if◌then◌else◌}
 use Rattle.std.specs.Option.{ok_or, option_or, option_and_then}
 use Rattle.std.specs.Char.{is_ascii_digit}
@@ -73,20 +74,24 @@ percent_of text = option_and_then (λ n. if nat_le n 100 then Some n else None) 
 -- the number of a text that is a number and this letter
 unfoldable pub marked_of : ℕ → List ℕ → Option ℕ
 marked_of letter text =
-    option_and_then (λ halves. if length halves.1 == 0 then number_of halves.0 else None) (cut_of letter text)
+    option_and_then (λ halves. if length halves.1 == 0 then number_of halves.0 else None)
+    (cut_of letter text)
 
 -- the limit of a game: a number of turns, or a time whose bare number counts hours
 unfoldable pub game_of : List ℕ → Option GameLimit
-game_of text = option_or (option_map turns_limit (marked_of 116 text)) (option_map time_limit (span_of 60000 units_of_game text))
+game_of text = option_or (option_map turns_limit (marked_of 116 text))
+    (option_map time_limit (span_of 60000 units_of_game text))
 
--- what the next step makes of a value, or the fault that came first
 infixl 10 ◌>>=◌
-abbrev pub ◌>>=◌ : {A B : Type 0} → Result A ControlFault → (A → Result B ControlFault) → Result B ControlFault
+-- what the next step makes of a value, or the fault that came first
+abbrev pub ◌>>=◌ : {A B : Type 0} → Result A ControlFault → (A → Result B ControlFault)
+    → Result B ControlFault
 (Ok x) >>= f = f x
 (Err e) >>= f = Err e
 
 -- the value of a field, the usual one where it is left off, or the fault that names it
-abbrev pub field_of : {V : Type 0} → (List ℕ → Option V) → V → ℕ → Option (List ℕ) → Result V ControlFault
+abbrev pub field_of : {V : Type 0} → (List ℕ → Option V) → V → ℕ → Option (List ℕ)
+    → Result V ControlFault
 field_of read usual k None = Ok usual
 field_of read usual k (Some text) = ok_or (read text) (Field k)
 
@@ -99,4 +104,12 @@ control_of texts = do
   cap ← field_of time_of 0 4 (slice_get texts 3)
   game ← field_of game_of limits.None 5 (slice_get texts 4)
   limit ← field_of time_of 0 6 (slice_get texts 5)
-  if nat_lt 6 (length texts) then Err (Field 7) else Ok (record { turn = turn; reserve = reserve; percent = percent; cap = cap; game = game; limit = limit })
+  if nat_lt 6 (length texts) then Err (Field 7) else Ok
+      (record {
+        turn = turn;
+        reserve = reserve;
+        percent = percent;
+        cap = cap;
+        game = game;
+        limit = limit;
+      })

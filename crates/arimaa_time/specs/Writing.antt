@@ -10,8 +10,8 @@ use Rattle.arimaa_time.specs.declared.control.GameLimit.TheVariants as limits
 abbrev pub two_digits : ℕ → List ℕ
 two_digits n = (48 + n / 10) ∷ (48 + n % 10) ∷ []
 
--- a time as on a clock, `m:ss` or `h:mm`, where a sixtieth of the large unit has so many milliseconds. The large unit has
--- no leading zeros, and what is below a sixtieth is dropped
+-- a time as on a clock, `m:ss` or `h:mm`, where a sixtieth of the large unit has so many
+-- milliseconds. The large unit has no leading zeros, and what is below a sixtieth is dropped
 unfoldable pub clock_text : ℕ → ℕ → List ℕ
 clock_text sixtieth ms = decimal (ms / sixtieth / 60) ++ 58 ∷ two_digits (ms / sixtieth % 60)
 
@@ -23,7 +23,9 @@ game_text (limits.Turns n) = decimal n ++ 116 ∷ []
 
 -- the six fields
 abbrev pub texts_of : Control → List (List ℕ)
-texts_of c = clock_text 1000 c.turn ∷ clock_text 1000 c.reserve ∷ decimal c.percent ∷ clock_text 1000 c.cap ∷ game_text c.game ∷ clock_text 1000 c.limit ∷ []
+texts_of c =
+    clock_text 1000 c.turn ∷ clock_text 1000 c.reserve ∷ decimal c.percent
+    ∷ clock_text 1000 c.cap ∷ game_text c.game ∷ clock_text 1000 c.limit ∷ []
 
 -- the written control: its fields, with slashes between
 abbrev pub text_of : Control → List ℕ

@@ -118,10 +118,11 @@ fn read_fields(text: &[u8]) -> Result<Control, ControlFault>
 
 /// Reads the text of a time control.
 ///
-/// It has one to six fields with slashes between: the time for a turn, the reserve at the start, the percentage of unused
-/// time that is kept, the cap of the reserve, the game limit, and the limit of one turn. A time is a number of minutes, or
-/// `m:ss`, or parts such as `1h30m` in the units d, h, m and s. A game limit is a number of hours, or `h:mm`, or parts in
-/// d, h and m, or a number of turns as `60t`. Fields that are left off at the end are 0, and 100 percent.
+/// It has one to six fields with slashes between: the time for a turn, the reserve at the start,
+/// the percentage of unused time that is kept, the cap of the reserve, the game limit, and the
+/// limit of one turn. A time is a number of minutes, or `m:ss`, or parts such as `1h30m` in the
+/// units d, h, m and s. A game limit is a number of hours, or `h:mm`, or parts in d, h and m, or a
+/// number of turns as `60t`. Fields that are left off at the end are 0, and 100 percent.
 pub fn read_control(bytes: &[u8]) -> Result<Control, ControlFault>
     // What is read stands in the grammar, and what stands there is read.
     ensures read { IfOk result (λ control. IsControl bytes.now control) }

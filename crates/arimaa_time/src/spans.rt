@@ -71,8 +71,8 @@ pub fn marked(text: &[u8], letter: u8) -> Option<u32>
     }
 }
 
-// The number of this unit that the text begins with, and the text behind it; 0 and the whole text where it begins
-// otherwise.
+// The number of this unit that the text begins with, and the text behind it; 0 and the whole text
+// where it begins otherwise.
 #[tactic(auto, unfolding(crate::specs::Reading::part_of))]
 fn part(text: &[u8], letter: u8) -> (u32, &[u8])
     ensures value { (result.0, result.1.now) ≡ part_of letter text.now }
@@ -115,8 +115,8 @@ fn clock(text: &[u8]) -> Option<u32>
     (part_text.len() == 2 && part < 60).then_some(60 * whole + part)
 }
 
-/// A length of time in milliseconds: a bare number, a clock's reading, or one part or more in these units. A bare number
-/// counts sixty times `sixtieth`.
+/// A length of time in milliseconds: a bare number, a clock's reading, or one part or more in these
+/// units. A bare number counts sixty times `sixtieth`.
 #[tactic(auto, unfolding(crate::specs::Reading::span_of))]
 pub fn span(text: &[u8], sixtieth: u64, units: &[TimeUnit]) -> Option<u64>
     requires fine { sixtieth ≤ 60000 }

@@ -8,7 +8,8 @@ ghost use Rattle.arimaa_time.specs.Writing.{two_digits, clock_text, game_text, t
 use crate::control::{Control, GameLimit};
 use arrayvec::ArrayString;
 
-/// The bytes of the longest text: four times of 18, a percentage of 3, a game limit of 16, and five slashes.
+/// The bytes of the longest text: four times of 18, a percentage of 3, a game limit of 16, and five
+/// slashes.
 const ROOM: usize = 96;
 
 // Writes a digit.
@@ -100,9 +101,10 @@ fn push_game(text: &mut ArrayString<ROOM>, game: GameLimit)
 
 /// The text of a time control, in all six fields.
 ///
-/// The times are written in minutes and seconds, the game limit in hours and minutes or in turns. What is left below a
-/// second, and in the game limit below a minute, is dropped. Where nothing is dropped, no number has more than six digits
-/// and the percentage is at most 100, the text is read back as the same control.
+/// The times are written in minutes and seconds, the game limit in hours and minutes or in turns.
+/// What is left below a second, and in the game limit below a minute, is dropped. Where nothing is
+/// dropped, no number has more than six digits and the percentage is at most 100, the text is read
+/// back as the same control.
 pub fn control_text(control: &Control) -> ArrayString<96>
     ensures text { result.bytes ≡ text_of control.now }
     ensures read_back { IsWholeControl control.now → IsControl result.bytes control.now }

@@ -8,7 +8,7 @@ use Rattle.arimaa_judge.specs.declared.judging.Judged.TheVariants as judgement
 use Rattle.arimaa_judge.specs.declared.rule.Rule.{Rule}
 use Rattle.arimaa_judge.specs.Judged.{IsJudged}
 use Rattle.arimaa_judge.specs.Texts.{line, state_line, text_of_bad}
-use Rattle.arimaa_model.specs.declared.ending.Ending.{Ending}
+use Rattle.arimaa_board.specs.declared.ending.Ending.{Ending}
 use Rattle.arimaa_model.specs.Game.{barred_by, ending, present}
 use Rattle.arimaa_model.specs.Results.{next}
 use Rattle.arimaa_model.specs.Strategies.{first_turn}
