@@ -63,6 +63,6 @@ pub keys_same : (p q : Position) → position_at (key_of p) ≡ p → position_a
     → same_key (key_of p) (key_of q) ≡ same_position p q
 keys_same p q p_back q_back =
     let turned : Decides (same_position q p) (p ≡ q) =
-        Decides-like (same_position q p) (λ (e : q ≡ p). sym e) (λ (e : p ≡ q). sym e) (same_position-Decides q p) in
+    Decides-like (same_position q p) (λ (e : q ≡ p). sym e) (λ (e : p ≡ q). sym e) (same_position-Decides q p) in
     same_keys p q p_back q_back
     ∙ same_from_decides (same_position q p) (same_position p q) turned (same_position-Decides p q)
