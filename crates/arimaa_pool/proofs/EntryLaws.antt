@@ -55,6 +55,16 @@ few_steps : (p : Position) (steps : List Step) → is_turn p.board p.side steps 
 unfolding is_turn
 few_steps p steps turn = leb-true (length steps) 4 (and_parts _ _ (and_parts _ _ (and_parts _ _ turn).0).0).1
 
+-- a turn has a step
+pub some_steps : (p : Position) (steps : List Step) → is_turn p.board p.side steps ≡ true → 1 ≤ length steps
+unfolding is_turn
+some_steps p steps turn = leb-true 1 (length steps) (and_parts _ _ (and_parts _ _ (and_parts _ _ turn).0).0).0
+
+-- the steps are as many with their marks
+length-marks : (b : Board) (steps : List Step) → length (steps_with_marks b steps) ≡ length steps
+length-marks b [] = refl
+length-marks b (s ∷ rest) = ap suc (length-marks (after b s) rest)
+
 pub never_refused : (p r : Position) (steps : List Step) (Q : Type 0) → result_of p steps ≡ Some r → (e : ApplyFault) → applied p steps ≡ Err e → Q
 never_refused p r steps Q reached e refused =
     let turn = result-turn p steps r reached in
@@ -131,6 +141,14 @@ written t n q r noted steps ranked same marks =
     let rank_is : r ≡ e.rank = ranked ∙ sym (entry-rank t.attacker t.barred n q) in
     let turn : noted ≡ steps_with_marks e.position.board e.steps = marks ∙ (λ i. steps_with_marks (here i).board (same i)) in
     λ i. record { position = here i; rank = rank_is i; turn = turn i }
+
+-- where it brings a position about, its turn has a step
+pub written-steps : (t : Terms) (n : ℕ) (q r : Position) → result_at (entry_of t.attacker t.barred n q) ≡ Some r → 0 < length (written_entry t n q).turn
+written-steps t n q r turn =
+    let e : Planned = entry_of t.attacker t.barred n q in
+    let some = some_steps e.position e.steps (result-turn e.position e.steps r turn) in
+    let same = length-marks e.position.board e.steps in
+    omega arith
 
 -- what holds of a value, if there is one, holds of this value
 pub some_of : {X : Type 0} (o : Option X) (x : X) (P : X → Type 0) → o ≡ Some x → IfSome o P → P x

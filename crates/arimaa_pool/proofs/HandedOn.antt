@@ -39,3 +39,8 @@ pub fail_on : {A B : Type 0} (heard : Result A Failure) (result : Result B Failu
 fail_on {A} heard result f u t K L same was raised told wider =
     let F : Terms → Type 0 = λ v. IfErr heard (IsFailure v (K v)) in
     handed_on heard result f (IsFailure t (K t)) (IsFailure t L) was raised (subst F same told) (wider_failure t (K t) L f wider)
+
+-- a stop that a caller hands on as a failure
+pub stop_fails : {B : Type 0} (result : Result B Failure) (s : Stop) (t : Terms) (K : Position → ℕ → Type 0) → IsErrAnd result (λ y. y ≡ Stopped s) → IsStop t K s → IfErr result (IsFailure t K)
+stop_fails (Ok x) s t K raised is = tt
+stop_fails (Err f) s t K raised is = subst (IsFailure t K) (sym raised) is

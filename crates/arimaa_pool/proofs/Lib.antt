@@ -5,3 +5,4 @@ pub mod Levels
 pub mod EntryLaws
 pub mod NeededQuestions
 pub mod VerdictLaws
+pub mod JobLaws

@@ -60,7 +60,7 @@ module _ {E : Type 0} (a : Color) (h : List Position) (s : Settings) (p : Positi
   answer-plays (Ok (Crowded q j)) last told = tt
   answer-plays (Ok (Yes r es)) last told =
       let own : List Planned = strategy_of a (barred_by h) r p in
-      let plain : map planned_of es.items ≡ own = ap (map planned_of) told.2 ∙ planned-written own in
+      let plain : map planned_of es ≡ own = ap (map planned_of) told.2 ∙ planned-written own in
       subst (λ (x : List Planned). WinsEveryPlay a x r h) (sym plain) (accepted-plays a h p r own last (made-accepted a (barred_by h) p r told.1))
 
   -- with enough budget and room it is a verdict

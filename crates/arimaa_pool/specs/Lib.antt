@@ -2,6 +2,8 @@ pub mod Terms
 pub mod Stops
 pub mod Failures
 pub mod Depths
+pub mod Crews
+pub mod Jobs
 pub mod Extraction
 pub mod Verdicts
 pub mod Limits

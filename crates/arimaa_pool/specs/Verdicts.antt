@@ -21,14 +21,14 @@ terms_of a h s = record { attacker = a; barred = barred_by h; budget = s.budget;
 
 -- the answer to the question whether the attacker wins p within n turns: the rank with the strategy, a no, or a needed question with the cause of the stop
 abbrev pub IsAnswer : Terms → Position → ℕ → Verdict → Type 0
-IsAnswer t p n (Yes r s) = (r ≤ n) × IsRank t.attacker t.barred p r × (s.items ≡ map entry_with_marks (strategy_of t.attacker t.barred r p))
+IsAnswer t p n (Yes r s) = (r ≤ n) × IsRank t.attacker t.barred p r × (s ≡ map entry_with_marks (strategy_of t.attacker t.barred r p))
 IsAnswer t p n No = wins t.attacker t.barred n p ≡ false
 IsAnswer t p n (Spent q j k) = InNeed t.attacker t.barred p n q j × (t.budget < cost t.attacker t.barred j q) × (k ≡ t.budget)
 IsAnswer t p n (Crowded q j) = InNeed t.attacker t.barred p n q j × (t.room < crowd t.barred j q)
 
 -- where the answer is yes, the strategy wins every play that begins with this history
 abbrev pub Plays : Color → List Position → Verdict → Type 0
-Plays a h (Yes r s) = WinsEveryPlay a (map planned_of s.items) r h
+Plays a h (Yes r s) = WinsEveryPlay a (map planned_of s) r h
 Plays a h No = Unit {0}
 Plays a h (Spent q j k) = Unit {0}
 Plays a h (Crowded q j) = Unit {0}

@@ -1,5 +1,5 @@
 //! The root is asked about at growing depths, up to the first yes.
-ghost use Rattle.std.specs.Prelude.{◌≡◌, ℕ, suc, ◌+◌, ◌<◌, ◌≤◌, [], ◌∷◌, None, false, IfOk, IfErr};
+ghost use Rattle.std.specs.Prelude.{◌≡◌, ℕ, suc, ◌+◌, ◌<◌, ◌≤◌, [], ◌∷◌, None, false, IfOk, IfErr, OnOk};
 ghost use Rattle.arimaa_model.specs.Decided.{decided};
 ghost use Rattle.arimaa_model.specs.Members.{Stands};
 ghost use Rattle.arimaa_model.specs.Ranks.{rank_within};
@@ -7,66 +7,99 @@ ghost use Rattle.arimaa_model.specs.Results.{next};
 ghost use Rattle.arimaa_model.specs.Wins.{wins};
 ghost use Rattle.arimaa_forced.specs.Needs.{IsAsked};
 ghost use Rattle.arimaa_forced.specs.Search.{looked_at};
-ghost use Rattle.arimaa_pool.specs.Depths.{IsFound};
-ghost use Rattle.arimaa_pool.specs.Stops.{IsStop};
+ghost use Rattle.arimaa_pool.specs.Depths.{IsFound, depth_answer};
+ghost use Rattle.arimaa_pool.specs.Failures.{IsFailure};
 
-use crate::asker::Asker;
+use crate::crew::Crew;
+use crate::failure::Failure;
 use crate::gate::Gate;
+use crate::shift::Shift;
 use crate::stop::{Reason, Stop};
+use crate::stopped_job::StoppedJob;
 use arimaa_board::Position;
+use arimaa_jobs::Jobs;
 use arimaa_model::decided;
 use arimaa_region::Region;
 use arimaa_results::results;
+use std::thread::Threads;
 
-/// Asks about the next positions of an undecided position, which the list has, in order, up to the
-/// first decisive one: so whether the attacker wins the position one turn deeper. The job of this
-/// number is the place of this number.
-pub(crate) fn ask_jobs<G: Gate>(
-    asker: &mut Asker,
+// The verdict of a depth, where `least` is the least decisive job found, or the number of jobs.
+//
+// A job that stopped gives its stop where no job was found, or where the side to move is the one that
+// is to win (`own`) and the job comes before the one that was found: it may be the first that is won.
+fn answer_of(least: u32, count: u32, own: bool, stopped: Option<StoppedJob>) -> Result<bool, Stop>
+    ensures { result ≡ depth_answer least count own stopped }
+{
+    let found = least < count;
+    match stopped {
+        None => Ok(found == own),
+        Some(stopped) => {
+            if stopped.job < least && (own || !found) {
+                Err(stopped.stop)
+            } else {
+                Ok(found == own)
+            }
+        }
+    }
+}
+
+/// Lets the workers ask about the next positions of an undecided position, which the list has, in
+/// order: so whether the attacker wins the position one turn deeper.
+fn ask_jobs<R: AllocGlobal + Threads + Sync, G: Gate>(
+    rt: &R,
+    crew: &mut Crew,
     list: &Region,
     gate: &G,
     p: &Position,
     depth: u8,
-) -> Result<bool, Stop>
+) -> Result<bool, Failure>
     requires depth { depth < 20 }
+    requires some { 1 ≤ crew.old.count }
+    requires few { crew.old.count ≤ 16 }
     requires undecided { decided p.now ≡ None }
-    requires list { list.now.segments ≡ next asker.old.barred p.now ∷ [] }
-    ensures same { asker.new ≡ asker.old }
-    ensures verdict { IfOk result (λ v. v ≡ wins asker.old.attacker asker.old.barred (suc depth) p.now) }
-    ensures stop { IfErr result (IsStop asker.old (λ q j. (j ≡ depth) × Stands (looked_at asker.old.attacker asker.old.barred depth p.now) q)) }
+    requires list { list.now.segments ≡ next crew.old.terms.barred p.now ∷ [] }
+    ensures terms { crew.new.terms ≡ crew.old.terms }
+    ensures count { OnOk result (crew.new.count ≡ crew.old.count) }
+    ensures verdict { IfOk result (λ v. v ≡ wins crew.old.terms.attacker crew.old.terms.barred (suc depth) p.now) }
+    ensures failure { IfErr result (IsFailure crew.old.terms (λ q j. (j ≡ depth) × Stands (looked_at crew.old.terms.attacker crew.old.terms.barred depth p.now) q)) }
 {
-    let own = p.side == asker.attacker();
-    for job in 0..list.live() {
-        let q = list.get(job);
-        gate.enter(job);
-        let answer = asker.ask(&q, depth);
-        gate.leave(job);
-        let won = answer?;
-        if won == own {
-            return Ok(own);
-        }
-    }
-    Ok(!own)
+    let count = list.live();
+    let (jobs, mut whole) = Jobs::new(rt.alloc(), count)?;
+    let shift = Shift {
+        jobs: &jobs,
+        list,
+        gate,
+        root: p,
+        depth,
+    };
+    let stopped = shift.run(rt, rt.alloc(), &mut whole, crew)?;
+    let least = jobs.least(&mut whole);
+    let own = p.side == crew.attacker();
+    Ok(answer_of(least, count, own, stopped)?)
 }
 
 /// The rank of the root, where it is at most n.
-pub(crate) fn deepen<G: Gate>(
-    asker: &mut Asker,
+pub(crate) fn deepen<R: AllocGlobal + Threads + Sync, G: Gate>(
+    rt: &R,
+    crew: &mut Crew,
     list: &mut Region,
     gate: &G,
     p: &Position,
     n: u8,
-) -> Result<Option<u8>, Stop>
+) -> Result<Option<u8>, Failure>
     requires depth { n ≤ 20 }
+    requires some { 1 ≤ crew.old.count }
+    requires few { crew.old.count ≤ 16 }
     requires empty { list.old.segments ≡ [] }
-    requires room { list.old.room ≡ asker.old.room }
-    ensures same { asker.new ≡ asker.old }
+    requires room { list.old.room ≡ crew.old.terms.room }
+    ensures terms { crew.new.terms ≡ crew.old.terms }
+    ensures count { OnOk result (crew.new.count ≡ crew.old.count) }
     ensures empty { list.new.segments ≡ [] }
     ensures room { list.new.room ≡ list.old.room }
-    ensures found { IfOk result (IsFound asker.old p.now n) }
-    ensures stop { IfErr result (IsStop asker.old (IsAsked asker.old.attacker asker.old.barred p.now (rank_within asker.old.attacker asker.old.barred n p.now))) }
+    ensures found { IfOk result (IsFound crew.old.terms p.now n) }
+    ensures failure { IfErr result (IsFailure crew.old.terms (IsAsked crew.old.terms.attacker crew.old.terms.barred p.now (rank_within crew.old.terms.attacker crew.old.terms.barred n p.now))) }
 {
-    if asker.ask(p, 0)? {
+    if crew.ask(p, 0)? {
         return Ok(Some(0));
     }
     if n == 0 {
@@ -75,14 +108,14 @@ pub(crate) fn deepen<G: Gate>(
     if decided(p).is_some() {
         return Ok(None);
     }
-    match results(p, asker.barred(), list) {
-        Err(_) => Err(Stop {
+    match results(p, crew.barred(), list) {
+        Err(_) => Err(Failure::Stopped(Stop {
             position: *p,
             depth: 1,
             reason: Reason::Crowded,
-        }),
+        })),
         Ok(mark) => {
-            let answer = deepen_over(asker, list, gate, p, n);
+            let answer = deepen_over(rt, crew, list, gate, p, n);
             list.release(mark);
             answer
         }
@@ -90,23 +123,27 @@ pub(crate) fn deepen<G: Gate>(
 }
 
 // The depths from 1 on, where the list has the next positions of the root.
-fn deepen_over<G: Gate>(
-    asker: &mut Asker,
+fn deepen_over<R: AllocGlobal + Threads + Sync, G: Gate>(
+    rt: &R,
+    crew: &mut Crew,
     list: &Region,
     gate: &G,
     p: &Position,
     n: u8,
-) -> Result<Option<u8>, Stop>
+) -> Result<Option<u8>, Failure>
     requires depth { n ≤ 20 }
+    requires some { 1 ≤ crew.old.count }
+    requires few { crew.old.count ≤ 16 }
     requires undecided { decided p.now ≡ None }
-    requires lost { wins asker.old.attacker asker.old.barred 0 p.now ≡ false }
-    requires list { list.now.segments ≡ next asker.old.barred p.now ∷ [] }
-    ensures same { asker.new ≡ asker.old }
-    ensures found { IfOk result (IsFound asker.old p.now n) }
-    ensures stop { IfErr result (IsStop asker.old (IsAsked asker.old.attacker asker.old.barred p.now (rank_within asker.old.attacker asker.old.barred n p.now))) }
+    requires lost { wins crew.old.terms.attacker crew.old.terms.barred 0 p.now ≡ false }
+    requires list { list.now.segments ≡ next crew.old.terms.barred p.now ∷ [] }
+    ensures terms { crew.new.terms ≡ crew.old.terms }
+    ensures count { OnOk result (crew.new.count ≡ crew.old.count) }
+    ensures found { IfOk result (IsFound crew.old.terms p.now n) }
+    ensures failure { IfErr result (IsFailure crew.old.terms (IsAsked crew.old.terms.attacker crew.old.terms.barred p.now (rank_within crew.old.terms.attacker crew.old.terms.barred n p.now))) }
 {
     for depth in 0..n {
-        if ask_jobs(asker, list, gate, p, depth)? {
+        if ask_jobs(rt, crew, list, gate, p, depth)? {
             return Ok(Some(depth + 1));
         }
     }

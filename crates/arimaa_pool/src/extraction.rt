@@ -15,17 +15,18 @@ use crate::failure::Failure;
 use crate::met::{meet, meet_all};
 use crate::stop::{Reason, Stop};
 use arimaa_board::Position;
-use arimaa_forced::Entry;
+use arimaa_history::Barred;
 use arimaa_model::decided;
 use arimaa_region::Region;
 use arimaa_results::results;
+use arimaa_strategy::Strategy;
 use std::alloc::{AllocError, Global};
 
 // Adds the undecided replies to a position of the other side that is won within `rank` turns.
 fn meet_replies(
     asker: &Asker,
     list: &mut Region,
-    queue: &mut Vec<Position>,
+    queue: &mut Barred,
     r: &Position,
     rank: u8,
 ) -> Result<(), Failure>
@@ -34,7 +35,7 @@ fn meet_replies(
     requires won { IsTrue (wins asker.now.attacker asker.now.barred rank r.now) }
     ensures empty { list.new.segments ≡ [] }
     ensures room { list.new.room ≡ list.old.room }
-    ensures met { OnOk result (queue.new.items ≡ first_occurrences queue.old.items (open_replies asker.now.barred r.now)) }
+    ensures met { OnOk result (queue.new ≡ first_occurrences queue.old (open_replies asker.now.barred r.now)) }
     ensures failure { IfErr result (IsFailure asker.now (λ q j. (q ≡ r.now) × (j ≡ rank))) }
 {
     if decided(r).is_some() {
@@ -58,7 +59,7 @@ fn meet_replies(
 fn meet_first(
     asker: &Asker,
     list: &mut Region,
-    queue: &mut Vec<Position>,
+    queue: &mut Barred,
     p: &Position,
     rank: u8,
 ) -> Result<(), Failure>
@@ -67,7 +68,7 @@ fn meet_first(
     requires won { IsTrue (wins asker.now.attacker asker.now.barred rank p.now) }
     ensures empty { list.new.segments ≡ [] }
     ensures room { list.new.room ≡ list.old.room }
-    ensures met { OnOk result (queue.new.items ≡ first_occurrences queue.old.items (first_met asker.now.attacker asker.now.barred p.now)) }
+    ensures met { OnOk result (queue.new ≡ first_occurrences queue.old (first_met asker.now.attacker asker.now.barred p.now)) }
     ensures failure { IfErr result (IsFailure asker.now (λ q j. (q ≡ p.now) × (j ≡ rank))) }
 {
     if p.side == asker.attacker() {
@@ -81,8 +82,8 @@ fn meet_first(
 fn play(
     asker: &mut Asker,
     list: &mut Region,
-    queue: &mut Vec<Position>,
-    entries: &mut Vec<Entry>,
+    queue: &mut Barred,
+    strategy: &mut Strategy,
     q: &Position,
     n: u8,
 ) -> Result<(), Failure>
@@ -93,13 +94,13 @@ fn play(
     ensures same { asker.new ≡ asker.old }
     ensures empty { list.new.segments ≡ [] }
     ensures room { list.new.room ≡ list.old.room }
-    ensures entry { OnOk result (entries.new.items ≡ entries.old.items ++ written_entry asker.old n q.now ∷ []) }
-    ensures met { OnOk result (queue.new.items ≡ first_occurrences queue.old.items (after_entry asker.old.attacker asker.old.barred n q.now)) }
+    ensures entry { OnOk result (strategy.new ≡ strategy.old ++ written_entry asker.old n q.now ∷ []) }
+    ensures met { OnOk result (queue.new ≡ first_occurrences queue.old (after_entry asker.old.attacker asker.old.barred n q.now)) }
     ensures failure { IfErr result (IsFailure asker.old (IsAsked asker.old.attacker asker.old.barred q.now (rank_within asker.old.attacker asker.old.barred n q.now))) }
 {
     let (entry, reached) = entry_of(asker, list, q, n)?;
     let rank = entry.rank;
-    entries.push(entry)?;
+    strategy.push(entry)?;
     meet_replies(asker, list, queue, &reached, rank - 1)
 }
 
@@ -110,23 +111,23 @@ pub(crate) fn extract(
     list: &mut Region,
     p: &Position,
     rank: u8,
-) -> Result<Vec<Entry>, Failure>
+) -> Result<Strategy, Failure>
     requires depth { rank ≤ 20 }
     requires rank { IsRank asker.old.attacker asker.old.barred p.now rank }
     requires empty { list.old.segments ≡ [] }
     requires room { list.old.room ≡ asker.old.room }
     ensures same { asker.new ≡ asker.old }
-    ensures strategy { IfOk result (λ entries. entries.items ≡ map entry_with_marks (strategy_of asker.old.attacker asker.old.barred rank p.now)) }
+    ensures strategy { IfOk result (λ s. s ≡ map entry_with_marks (strategy_of asker.old.attacker asker.old.barred rank p.now)) }
     ensures failure { IfErr result (IsFailure asker.old (InNeed asker.old.attacker asker.old.barred p.now rank)) }
 {
-    let mut queue = Vec::new(alloc);
+    let mut queue = Barred::new(alloc);
     meet_first(asker, list, &mut queue, p, rank)?;
-    let mut entries = Vec::new(alloc);
+    let mut strategy = Strategy::new(alloc);
     let mut played = 0;
-    while played < queue.len() {
-        let q = queue[played];
-        play(asker, list, &mut queue, &mut entries, &q, rank)?;
+    while played < queue.as_slice().len() {
+        let q = queue.as_slice()[played];
+        play(asker, list, &mut queue, &mut strategy, &q, rank)?;
         played += 1;
     }
-    Ok(entries)
+    Ok(strategy)
 }

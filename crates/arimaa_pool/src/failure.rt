@@ -1,6 +1,6 @@
 //! Why no strategy was found.
 use crate::stop::Stop;
-use std::alloc::{AllocError, AllocFailed};
+use std::alloc::AllocError;
 
 /// Why no strategy was found.
 #[derive(Drop)]
@@ -29,17 +29,6 @@ impl From<AllocError> for Failure {
     ghost from_gives = { λ _ failure. failure ≡ Memory };
 
     fn from(_error: AllocError) -> Failure {
-        Failure::Memory
-    }
-}
-
-impl<T: Drop> From<AllocFailed<T>> for Failure {
-    ghost use Rattle.std.specs.Prelude.{◌≡◌};
-    ghost use Rattle.arimaa_pool.specs.declared.failure.Failure.TheVariants.{Memory};
-
-    ghost from_gives = { λ _ failure. failure ≡ Memory };
-
-    fn from(_error: AllocFailed<T>) -> Failure {
         Failure::Memory
     }
 }

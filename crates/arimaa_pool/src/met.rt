@@ -6,15 +6,16 @@ ghost use Rattle.arimaa_model.specs.Results.{with_new, first_occurrences, next};
 ghost use Rattle.arimaa_region.specs.Segments.{live_of};
 
 use arimaa_board::Position;
-use arimaa_model::{decided, stands_in};
+use arimaa_history::Barred;
+use arimaa_model::decided;
 use arimaa_region::Region;
 use std::alloc::AllocError;
 
 // Adds an undecided position at the end, unless it stands there.
-pub(crate) fn meet(queue: &mut Vec<Position>, q: &Position) -> Result<(), AllocError>
-    ensures { OnOk result (queue.new.items ≡ first_occurrences queue.old.items (filter (λ x. is_none (decided x)) (q.now ∷ []))) }
+pub(crate) fn meet(queue: &mut Barred, q: &Position) -> Result<(), AllocError>
+    ensures { OnOk result (queue.new ≡ first_occurrences queue.old (filter (λ x. is_none (decided x)) (q.now ∷ []))) }
 {
-    if decided(q).is_some() || stands_in(queue.as_slice(), q) {
+    if decided(q).is_some() || queue.contains(q) {
         return Ok(());
     }
     queue.push(*q)?;
@@ -22,8 +23,8 @@ pub(crate) fn meet(queue: &mut Vec<Position>, q: &Position) -> Result<(), AllocE
 }
 
 // Adds the undecided positions of a list that has one segment.
-pub(crate) fn meet_all(queue: &mut Vec<Position>, list: &Region) -> Result<(), AllocError>
-    ensures { OnOk result (queue.new.items ≡ first_occurrences queue.old.items (filter (λ x. is_none (decided x)) (live_of list.now.segments))) }
+pub(crate) fn meet_all(queue: &mut Barred, list: &Region) -> Result<(), AllocError>
+    ensures { OnOk result (queue.new ≡ first_occurrences queue.old (filter (λ x. is_none (decided x)) (live_of list.now.segments))) }
 {
     for place in 0..list.live() {
         meet(queue, &list.get(place))?;

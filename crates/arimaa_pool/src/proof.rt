@@ -2,13 +2,16 @@
 ghost use Rattle.std.specs.Prelude.{◌≡◌, ℕ, ◌≤◌, [], length, IfOk};
 ghost use Rattle.arimaa_board.specs.declared.position.Position.{Position};
 ghost use Rattle.arimaa_model.specs.Game.{barred_by, present};
+ghost use Rattle.arimaa_model.specs.Ranks.{IsRank};
 ghost use Rattle.arimaa_forced.specs.Needs.{InNeed};
+ghost use Rattle.arimaa_pool.specs.Failures.{IsFailure};
 ghost use Rattle.arimaa_pool.specs.Limits.{AreWithinLimits};
 ghost use Rattle.arimaa_pool.specs.Stops.{IsStop};
 ghost use Rattle.arimaa_pool.specs.Terms.{Terms};
 ghost use Rattle.arimaa_pool.specs.Verdicts.{IsAnswer, IsDone, Plays, Suffices, terms_of};
 
 use crate::asker::Asker;
+use crate::crew::Crew;
 use crate::depths::deepen;
 use crate::extraction::extract;
 use crate::failure::Failure;
@@ -19,10 +22,19 @@ use crate::verdict::Verdict;
 use arimaa_board::{Color, Position};
 use arimaa_history::History;
 use arimaa_region::Region;
-use arimaa_search::Worker;
 use arimaa_table::Table;
 use std::alloc::{AllocError, Global};
 use std::thread::Threads;
+
+// The verdict where a needed question stopped, or no verdict for want of memory.
+fn verdict_on(failure: &Failure) -> Result<Verdict, AllocError>
+    ensures { (t : Terms) (p : Position) (n : ℕ) → IsFailure t (InNeed t.attacker t.barred p n) failure.now → IfOk result (IsAnswer t p n) }
+{
+    match failure {
+        Failure::Memory => Err(AllocError),
+        Failure::Stopped(stop) => Ok(verdict_of(stop)),
+    }
+}
 
 // The verdict where a needed question stopped.
 fn verdict_of(stop: &Stop) -> Verdict
@@ -41,32 +53,51 @@ fn verdict_of(stop: &Stop) -> Verdict
     }
 }
 
-// The verdict on a position, asked by one worker.
-fn answer_of<G: Gate>(
-    alloc: Global,
-    asker: &mut Asker,
+// The verdict on a position.
+fn answer_of<R: AllocGlobal + Threads + Sync, G: Gate>(
+    rt: &R,
+    crew: &mut Crew,
     list: &mut Region,
     gate: &G,
     p: &Position,
     n: u8,
 ) -> Result<Verdict, AllocError>
     requires depth { n ≤ 20 }
+    requires some { 1 ≤ crew.old.count }
+    requires few { crew.old.count ≤ 16 }
     requires empty { list.old.segments ≡ [] }
-    requires room { list.old.room ≡ asker.old.room }
-    ensures { IfOk result (IsAnswer asker.old p.now n) }
+    requires room { list.old.room ≡ crew.old.terms.room }
+    ensures { IfOk result (IsAnswer crew.old.terms p.now n) }
 {
-    match deepen(asker, list, gate, p, n) {
-        Err(stop) => Ok(verdict_of(&stop)),
+    match deepen(rt, crew, list, gate, p, n) {
+        Err(failure) => verdict_on(&failure),
         Ok(found) => match found {
             None => Ok(Verdict::No),
-            Some(rank) => match extract(alloc, asker, list, p, rank) {
-                Ok(strategy) => Ok(Verdict::Yes { rank, strategy }),
-                Err(failure) => match failure {
-                    Failure::Memory => Err(AllocError),
-                    Failure::Stopped(stop) => Ok(verdict_of(&stop)),
-                },
-            },
+            Some(rank) => {
+                let mut asker = crew.take().unwrap().into_inner();
+                win(rt.alloc(), &mut asker, list, p, rank)
+            }
         },
+    }
+}
+
+// The verdict on a position of this rank: a worker finds the strategy.
+fn win(
+    alloc: Global,
+    asker: &mut Asker,
+    list: &mut Region,
+    p: &Position,
+    rank: u8,
+) -> Result<Verdict, AllocError>
+    requires depth { rank ≤ 20 }
+    requires rank { IsRank asker.old.attacker asker.old.barred p.now rank }
+    requires empty { list.old.segments ≡ [] }
+    requires room { list.old.room ≡ asker.old.room }
+    ensures { (n : ℕ) → rank ≤ n → IfOk result (IsAnswer asker.old p.now n) }
+{
+    match extract(alloc, asker, list, p, rank) {
+        Ok(strategy) => Ok(Verdict::Yes { rank, strategy }),
+        Err(failure) => verdict_on(&failure),
     }
 }
 
@@ -74,11 +105,13 @@ fn answer_of<G: Gate>(
 /// enter a position that stands twice in the history.
 ///
 /// It asks the root at depth 0, 1 and so on up to `n`, until the first yes, and finds the strategy.
-/// The root's next positions are the jobs of a depth: the gate is told before and after each. `Spent`
-/// and `Crowded` name a question that is needed, whose cost is above the budget or whose crowd is above
-/// the room. One worker asks, whatever the settings say. `AllocError` comes only where there is too
-/// little memory.
-pub fn prove<R: AllocGlobal + Threads, G: Gate>(
+/// The root's next positions are the jobs of a depth, which as many workers claim as the settings say:
+/// the gate is told before and after each. They share one table, and take all their memory before the
+/// first question. `Spent` and `Crowded` name a question that is needed, whose cost is above the budget
+/// or whose crowd is above the room. `AllocError` comes only where there is too little memory.
+///
+/// The number of workers, their order and the gate change no rank, no strategy and no `No`.
+pub fn prove<R: AllocGlobal + Threads + Sync, G: Gate>(
     rt: &R,
     history: &History,
     attacker: Color,
@@ -95,8 +128,7 @@ pub fn prove<R: AllocGlobal + Threads, G: Gate>(
 {
     let p = history.last().unwrap();
     let (table, pass) = Table::new(rt.alloc(), settings.lines, attacker, history.barred())?;
-    let worker = Worker::new(rt.alloc(), settings.room, settings.budget)?;
-    let mut list = Region::with_room(rt.alloc(), settings.room)?;
-    let mut asker = Asker::new(&table, pass, worker);
-    answer_of(rt.alloc(), &mut asker, &mut list, gate, &p, n)
+    let mut list = Region::with_work(rt.alloc(), settings.room, 32_768)?;
+    let mut crew = Crew::new(rt.alloc(), &table, pass, settings)?;
+    answer_of(rt, &mut crew, &mut list, gate, &p, n)
 }

@@ -1,6 +1,6 @@
 //! What a prover answers.
 use arimaa_board::Position;
-use arimaa_forced::Entry;
+use arimaa_strategy::Strategy;
 
 /// The answer to the question whether the attacker wins the present position within so many turns.
 #[derive(Drop)]
@@ -11,7 +11,7 @@ pub enum Verdict {
         rank: u8,
         /// What it plays: one entry for each undecided position with the attacker to move that may be
         /// met, in the order of first meeting.
-        strategy: Vec<Entry>,
+        strategy: Strategy,
     },
     /// It does not.
     No,

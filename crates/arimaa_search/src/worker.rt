@@ -49,7 +49,7 @@ impl Worker {
         ensures budget { IfOk result (λ w. w.budget ≡ budget) }
         ensures counted { IfOk result (λ w. w.counted ≡ 0) }
     {
-        let region = Region::with_room(alloc, room)?;
+        let region = Region::with_work(alloc, room, 32_768)?;
         Ok(Worker {
             region,
             budget,

@@ -4,6 +4,7 @@ use Rattle.arimaa_pool.proofs.depths.deepen_over.Given as goal
 
 abbrev pub invariant-loop-depth : goal.invariant-loop-depth
 invariant-loop-depth g l = record {
-  same : l.asker ≡ l.initial.asker;
-  lost : (j : ℕ) → j ≤ l.depth → wins l.initial.asker.attacker l.initial.asker.barred j l.p ≡ false;
+  terms : l.crew.terms ≡ l.initial.crew.terms;
+  count : l.crew.count ≡ l.initial.crew.count;
+  lost : (j : ℕ) → j ≤ l.depth → wins l.initial.crew.terms.attacker l.initial.crew.terms.barred j l.p ≡ false;
 }

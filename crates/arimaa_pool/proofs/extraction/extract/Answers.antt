@@ -32,27 +32,32 @@ returns-in_err-meet_first-clause-failure c =
 pub play-requires-clause-open : goal.play-requires-clause-open
 play-requires-clause-open c =
     let t : Terms = c.args.asker.now in
-    let inside : c.loop-played.played < length c.loop-played.queue.items = omega arith in
-    let there = next-met t c.args.rank c.args.p.now c.requires.rank c.loop-played.played c.loop-played.queue.items c.loop-played.invariant.queue_is inside c.index.result.now c.index.ensures in
-    subst (λ (u : Terms). IsOpen u.attacker u.barred c.args.rank c.index.result.now) (sym c.loop-played.invariant.same)
-    (all-ready t.attacker t.barred c.args.rank c.args.p.now c.requires.rank.won c.args.rank c.index.result.now there)
+    let long : length c.as_slice.result.now ≡ length c.loop-played.queue = ap length c.as_slice.ensures in
+    let inside : c.loop-played.played < length c.loop-played.queue = omega arith in
+    let here : c.index-as_slice-played.result ≡ get_or c.loop-played.queue c.loop-played.played c.index-as_slice-played.result = c.index-as_slice-played.is ∙ ap (λ (l : List Position). get_or l c.loop-played.played c.index-as_slice-played.result) c.as_slice-in-loop-played.ensures in
+    let there = next-met t c.args.rank c.args.p.now c.requires.rank c.loop-played.played c.loop-played.queue c.loop-played.invariant.queue_is inside c.index-as_slice-played.result here in
+    subst (λ (u : Terms). IsOpen u.attacker u.barred c.args.rank c.index-as_slice-played.result) (sym c.loop-played.invariant.same)
+    (all-ready t.attacker t.barred c.args.rank c.args.p.now c.requires.rank.won c.args.rank c.index-as_slice-played.result there)
 
 pub returns-in_err-play-clause-failure : goal.returns-in_err-play-clause-failure
 returns-in_err-play-clause-failure c =
     let t : Terms = c.args.asker.now in
-    let inside : c.loop-played.played < length c.loop-played.queue.items = omega arith in
-    let there = next-met t c.args.rank c.args.p.now c.requires.rank c.loop-played.played c.loop-played.queue.items c.loop-played.invariant.queue_is inside c.index.result.now c.index.ensures in
+    let long : length c.as_slice.result.now ≡ length c.loop-played.queue = ap length c.as_slice.ensures in
+    let inside : c.loop-played.played < length c.loop-played.queue = omega arith in
+    let here : c.index-as_slice-played.result ≡ get_or c.loop-played.queue c.loop-played.played c.index-as_slice-played.result = c.index-as_slice-played.is ∙ ap (λ (l : List Position). get_or l c.loop-played.played c.index-as_slice-played.result) c.as_slice-in-loop-played.ensures in
+    let there = next-met t c.args.rank c.args.p.now c.requires.rank c.loop-played.played c.loop-played.queue c.loop-played.invariant.queue_is inside c.index-as_slice-played.result here in
     fail_on c.play.result c.from_residual-in_err-play.result c.in_err-play.field-0.0 c.loop-played.asker t
-    (λ u. IsAsked u.attacker u.barred c.index.result.now (rank_within u.attacker u.barred c.args.rank c.index.result.now))
+    (λ u. IsAsked u.attacker u.barred c.index-as_slice-played.result (rank_within u.attacker u.barred c.args.rank c.index-as_slice-played.result))
     (InNeed t.attacker t.barred c.args.p.now c.args.rank)
     c.loop-played.invariant.same c.in_err-play.was c.from_residual-in_err-play.ensures.1 c.play.ensures.failure
-    (λ x j asked. met-need t.attacker t.barred c.args.p.now c.args.rank c.requires.rank c.args.rank (omega arith) c.index.result.now there x j asked)
+    (λ x j asked. met-need t.attacker t.barred c.args.p.now c.args.rank c.requires.rank c.args.rank (omega arith) c.index-as_slice-played.result there x j asked)
 
 pub loop-played-smaller : goal.loop-played-smaller
 loop-played-smaller c =
     let t : Terms = c.args.asker.now in
-    let inside : c.loop-played.played < length c.loop-played.queue.items = omega arith in
-    let short = queue-short t c.args.rank c.args.p.now c.requires.rank.won c.loop-played.played c.loop-played.queue.items c.loop-played.invariant.queue_is in
+    let long : length c.as_slice.result.now ≡ length c.loop-played.queue = ap length c.as_slice.ensures in
+    let inside : c.loop-played.played < length c.loop-played.queue = omega arith in
+    let short = queue-short t c.args.rank c.args.p.now c.requires.rank.won c.loop-played.played c.loop-played.queue c.loop-played.invariant.queue_is in
     omega arith
 
 pub loop-played-preserved : goal.loop-played-preserved
@@ -60,28 +65,31 @@ loop-played-preserved c =
     let t : Terms = c.args.asker.now in
     let n = c.args.rank in
     let k = c.loop-played.played in
-    let q = c.index.result.now in
-    let queue = c.loop-played.queue.items in
+    let q = c.index-as_slice-played.result in
+    let queue = c.loop-played.queue in
+    let long : length c.as_slice.result.now ≡ length queue = ap length c.as_slice.ensures in
     let inside : k < length queue = omega arith in
+    let here : q ≡ get_or queue k q = c.index-as_slice-played.is ∙ ap (λ (l : List Position). get_or l k q) c.as_slice-in-loop-played.ensures in
     let same = c.loop-played.invariant.same in
-    let met_is : c.play.new.queue.items ≡ first_occurrences queue (after_entry t.attacker t.barred n q) = c.in_ok-play.ensures.met ∙ ap (λ (u : Terms). first_occurrences queue (after_entry u.attacker u.barred n q)) same in
+    let met_is : c.play.new.queue ≡ first_occurrences queue (after_entry t.attacker t.barred n q) = c.in_ok-play.ensures.met ∙ ap (λ (u : Terms). first_occurrences queue (after_entry u.attacker u.barred n q)) same in
     let w : Position → Entry = written_entry t n in
-    let written : c.play.new.entries.items ≡ c.loop-played.entries.items ++ w q ∷ [] = c.in_ok-play.ensures.entry ∙ ap (λ (u : Terms). c.loop-played.entries.items ++ written_entry u n q ∷ []) same in
-    let played : take (k + 1) c.play.new.queue.items ≡ take k queue ++ q ∷ [] = ap (take (k + 1)) met_is ∙ played-more t n c.args.p.now c.requires.rank.won k q queue (after_entry t.attacker t.barred n q) inside (sym c.index.ensures) in
+    let written : c.play.new.strategy ≡ c.loop-played.strategy ++ w q ∷ [] = c.in_ok-play.ensures.entry ∙ ap (λ (u : Terms). c.loop-played.strategy ++ written_entry u n q ∷ []) same in
+    let played : take (k + 1) c.play.new.queue ≡ take k queue ++ q ∷ [] = ap (take (k + 1)) met_is ∙ played-more t n c.args.p.now c.requires.rank.won k q queue (after_entry t.attacker t.barred n q) inside (sym here) in
     record {
       same = c.in_ok-play.ensures.same ∙ same;
       empty = c.in_ok-play.ensures.empty;
       room = c.in_ok-play.ensures.room ∙ c.loop-played.invariant.room;
-      queue_is = subst (IsQueue t n c.args.p.now (k + 1)) (sym met_is) (queue-more t n c.args.p.now c.requires.rank.won k q queue c.loop-played.invariant.queue_is inside (sym c.index.ensures));
-      entries = written ∙ (ap (λ l. l ++ w q ∷ []) c.loop-played.invariant.entries ∙ (sym (map-append w (take k queue) (q ∷ [])) ∙ ap (map w) (sym played)));
+      queue_is = subst (IsQueue t n c.args.p.now (k + 1)) (sym met_is) (queue-more t n c.args.p.now c.requires.rank.won k q queue c.loop-played.invariant.queue_is inside (sym here));
+      strategy = written ∙ (ap (λ l. l ++ w q ∷ []) c.loop-played.invariant.strategy ∙ (sym (map-append w (take k queue) (q ∷ [])) ∙ ap (map w) (sym played)));
     }
 
 pub returns-clause-strategy : goal.returns-clause-strategy
 returns-clause-strategy c =
     let t : Terms = c.args.asker.now in
     let n = c.args.rank in
-    let queue = c.loop-played.queue.items in
+    let queue = c.loop-played.queue in
+    let long : length c.as_slice.result.now ≡ length queue = ap length c.as_slice.ensures in
     let past : length queue ≤ c.loop-played.played = omega arith in
-    c.loop-played.invariant.entries
+    c.loop-played.invariant.strategy
     ∙ (ap (map (written_entry t n)) (played-all t n c.args.p.now c.requires.rank.won c.loop-played.played queue past)
     ∙ all-entries t n c.args.p.now c.requires.rank.won queue (queue-end t n c.args.p.now c.requires.rank.won c.loop-played.played queue c.loop-played.invariant.queue_is past))

@@ -8,8 +8,8 @@ invariant-loop-played l = record {
   same : l.asker ≡ l.fn.asker;
   empty : l.list.segments ≡ [];
   room : l.list.room ≡ l.fn.asker.room;
-  queue_is : IsQueue l.fn.asker l.rank l.p l.played l.queue.items;
-  entries : l.entries.items ≡ map (written_entry l.fn.asker l.rank) (take l.played l.queue.items);
+  queue_is : IsQueue l.fn.asker l.rank l.p l.played l.queue;
+  strategy : l.strategy ≡ map (written_entry l.fn.asker l.rank) (take l.played l.queue);
 }
 
 abbrev pub decreases-loop-played : goal.decreases-loop-played

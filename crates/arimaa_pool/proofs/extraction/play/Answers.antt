@@ -1,4 +1,4 @@
-use Rattle.std.proofs.Common.{◌≡◌, ℕ, ◌+◌, ◌-◌, ◌<◌, ◌≤◌, sym, ◌∙◌, ap, subst, arith}
+use Rattle.std.proofs.Common.{◌≡◌, ℕ, ◌+◌, ◌-◌, ◌<◌, ◌≤◌, length, sym, ◌∙◌, ap, subst, arith}
 use Rattle.arimaa_board.specs.declared.position.Position.{Position}
 use Rattle.arimaa_model.specs.Ranks.{rank_within}
 use Rattle.arimaa_model.specs.Wins.{wins}
@@ -8,7 +8,7 @@ use Rattle.arimaa_forced.specs.declared.entry.Entry.{Entry}
 use Rattle.arimaa_pool.specs.Terms.{Terms}
 use Rattle.arimaa_pool.specs.Extraction.{written_entry}
 use Rattle.arimaa_pool.proofs.HandedOn.{failed_too}
-use Rattle.arimaa_pool.proofs.EntryLaws.{some-rank, reached-rank, reached-asked}
+use Rattle.arimaa_pool.proofs.EntryLaws.{some-rank, reached-rank, reached-asked, written-steps}
 use Rattle.arimaa_pool.proofs.extraction.play.Goals as goal
 
 -- the rank that the entry has
@@ -43,3 +43,8 @@ returns-clause-failure c =
     (λ q j is.
     let depth : j ≡ r - 1 = is.1 ∙ ap (λ (k : ℕ). k - 1) ranked in
     subst (λ (x : Position). IsAsked t.attacker t.barred c.args.q.now r x j) (sym is.0) (subst (λ (i : ℕ). IsAsked t.attacker t.barred c.args.q.now r c.in_ok-entry.reached i) (sym depth) asked))
+
+pub push-requires : goal.push-requires
+push-requires c =
+    let t : Terms = c.args.asker.now in
+    subst (λ (e : Entry). 0 < length e.turn) (sym c.in_ok-entry.ensures.entry) (written-steps t c.args.n c.args.q.now c.in_ok-entry.reached c.in_ok-entry.ensures.result)

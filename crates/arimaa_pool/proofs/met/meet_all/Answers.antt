@@ -27,4 +27,4 @@ one_more xs queue now place q there is =
     ∙ ap (first_occurrences queue) (sym (filter-cons q (drop (place + 1) xs)) ∙ sym (ap (filter undecided) here)))
 
 pub loop-place-preserved : goal.loop-place-preserved
-loop-place-preserved c = one_more (live_of c.args.list.now.segments) c.loop-place.queue.items c.meet.new.queue.items c.loop-place.place c.get.result c.get.ensures c.in_ok-meet.ensures ∙ c.loop-place.invariant
+loop-place-preserved c = one_more (live_of c.args.list.now.segments) c.loop-place.queue c.meet.new.queue c.loop-place.place c.get.result c.get.ensures c.in_ok-meet.ensures ∙ c.loop-place.invariant

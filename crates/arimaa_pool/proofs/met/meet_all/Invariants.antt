@@ -8,4 +8,4 @@ use Rattle.arimaa_pool.proofs.met.meet_all.Given as goal
 
 -- what is left adds to the queue what all add to it
 abbrev pub invariant-loop-place : goal.invariant-loop-place
-invariant-loop-place l = first_occurrences l.queue.items (filter (λ x. is_none (decided x)) (drop l.place (live_of l.list.segments))) ≡ first_occurrences l.initial.queue.items (filter (λ x. is_none (decided x)) (live_of l.list.segments))
+invariant-loop-place l = first_occurrences l.queue (filter (λ x. is_none (decided x)) (drop l.place (live_of l.list.segments))) ≡ first_occurrences l.initial.queue (filter (λ x. is_none (decided x)) (live_of l.list.segments))

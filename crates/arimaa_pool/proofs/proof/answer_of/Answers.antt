@@ -1,23 +1,25 @@
-use Rattle.std.proofs.Common.{◌≡◌, ℕ, sym, ◌∙◌, ap, subst}
+use Rattle.std.proofs.Common.{◌≡◌, ℕ, ◌≤◌, Option, Some, sym, ◌∙◌, subst}
+use Rattle.std.specs.Prelude.{IfOk}
 use Rattle.arimaa_board.specs.declared.position.Position.{Position}
 use Rattle.arimaa_model.specs.Ranks.{IsRank, rank_within}
 use Rattle.arimaa_forced.specs.Needs.{IsAsked, InNeed, deepening}
-use Rattle.arimaa_pool.specs.Terms.{Terms}
-use Rattle.arimaa_pool.specs.Stops.{IsStop}
-use Rattle.arimaa_pool.proofs.HandedOn.{wider_stop}
+use Rattle.arimaa_pool.specs.Crews.{IsTaken}
 use Rattle.arimaa_pool.specs.Depths.{IsFound}
-use Rattle.arimaa_pool.proofs.VerdictLaws.{stopped_too}
+use Rattle.arimaa_pool.specs.Terms.{Terms}
+use Rattle.arimaa_pool.specs.Verdicts.{IsAnswer}
+use Rattle.arimaa_pool.proofs.HandedOn.{wider_failure}
 use Rattle.arimaa_pool.proofs.proof.answer_of.Goals as goal
 
 pub returns-in-Err : goal.returns-in-Err
 returns-in-Err g c =
-    let t : Terms = c.args.asker.now in
-    c.verdict_of.ensures t c.args.p.now c.args.n
-    (wider_stop t (IsAsked t.attacker t.barred c.args.p.now (rank_within t.attacker t.barred c.args.n c.args.p.now)) (InNeed t.attacker t.barred c.args.p.now c.args.n) c.in-Err.stop (λ q j asked. deepening q j asked) c.in-Err.ensures.stop)
+    let t : Terms = c.args.crew.now.terms in
+    c.verdict_on.ensures t c.args.p.now c.args.n
+    (wider_failure t (IsAsked t.attacker t.barred c.args.p.now (rank_within t.attacker t.barred c.args.n c.args.p.now)) (InNeed t.attacker t.barred c.args.p.now c.args.n) c.in-Err.failure (λ q j asked. deepening q j asked) c.in-Err.ensures.failure)
 
-pub returns-in-Stopped : goal.returns-in-Stopped
-returns-in-Stopped g c =
-    let t : Terms = c.args.asker.now in
+pub returns-in-Some : goal.returns-in-Some
+returns-in-Some g c =
+    let t : Terms = c.args.crew.now.terms in
     let found = subst (IsFound t c.args.p.now c.args.n) c.in-Some.is c.in-Ok.ensures.found in
-    c.verdict_of-in-Stopped.ensures t c.args.p.now c.args.n
-    (stopped_too t c.deepen.new.asker c.args.p.now c.args.n c.in-Some.rank c.in-Err-extract.failure c.in-Stopped.stop c.deepen.ensures.same found c.in-Stopped.is c.in-Err-extract.ensures.failure)
+    let taken = subst (IsTaken c.deepen.new.crew c.take.new.self) c.unwrap.ensures c.take.ensures in
+    let same : c.into_inner-asker.result ≡ t = c.into_inner-asker.ensures ∙ (taken.0 ∙ c.deepen.ensures.terms) in
+    subst (λ (u : Terms). IfOk c.win.result (IsAnswer u c.args.p.now c.args.n)) same (c.win.ensures c.args.n found.0)

@@ -1,4 +1,4 @@
-use Rattle.std.proofs.Common.{◌≡◌, Some, is_some, sym, ◌∙◌, ap}
+use Rattle.std.proofs.Common.{◌≡◌, Some, is_some, refl, sym, ◌∙◌, ap}
 use Rattle.arimaa_board.specs.declared.position.Position.{Position}
 use Rattle.arimaa_model.specs.Game.{barred_by, present}
 use Rattle.arimaa_pool.specs.Terms.{Terms}
@@ -11,11 +11,11 @@ unwrap-p-requires g c = ap is_some c.last.ensures ∙ present-some c.args.histor
 
 pub returns-clause-answer : goal.returns-clause-answer
 returns-clause-answer g c = λ p last.
-    let terms : c.new-asker.result ≡ terms_of c.args.attacker c.args.history.now c.args.settings.now =
-    terms_same c.new-asker.result c.args.attacker c.args.history.now c.args.settings.now (c.new-asker.ensures.attacker ∙ c.in_ok-table.ensures.attacker) (c.new-asker.ensures.barred ∙ (c.in_ok-table.ensures.barred ∙ c.barred.ensures.value)) (c.new-asker.ensures.budget ∙ c.in_ok-worker.ensures.budget) (c.new-asker.ensures.room ∙ c.in_ok-worker.ensures.room) in
+    let terms : c.in_ok-crew.crew.terms ≡ terms_of c.args.attacker c.args.history.now c.args.settings.now =
+    c.in_ok-crew.ensures.terms ∙ terms_same _ c.args.attacker c.args.history.now c.args.settings.now c.in_ok-table.ensures.attacker (c.in_ok-table.ensures.barred ∙ c.barred.ensures.value) refl refl in
     let both : Some c.unwrap-p.result ≡ Some p = sym c.unwrap-p.ensures ∙ (c.last.ensures ∙ last) in
     let same : c.unwrap-p.result ≡ p = cc in
-    answer_for c.answer_of.result c.new-asker.result (terms_of c.args.attacker c.args.history.now c.args.settings.now) c.unwrap-p.result p c.args.n terms same c.answer_of.ensures
+    answer_for c.answer_of.result c.in_ok-crew.crew.terms (terms_of c.args.attacker c.args.history.now c.args.settings.now) c.unwrap-p.result p c.args.n terms same c.answer_of.ensures
 
 pub returns-clause-plays : goal.returns-clause-plays
 returns-clause-plays g c =
