@@ -13,7 +13,8 @@ use Rattle.arimaa_cli.specs.declared.answer.Answer.{Answer}
 use Rattle.arimaa_cli.specs.declared.answer.Answer.TheVariants.{Answered, Crowded, Done}
 use Rattle.arimaa_cli.specs.declared.commands.make.Making.{Making}
 use Rattle.arimaa_cli.specs.declared.commands.make.TheConstants.{MOST_PLACES, SETUPS}
-use Rattle.arimaa_cli.specs.Commands.Make.{IsMade, IsMadeFrom, IsMakeAnswer, IsPicked, IsStart, crowded_text, number_after, summary, turn_line}
+use Rattle.arimaa_cli.specs.Commands.Make.{IsMade, IsMadeFrom, IsMakeAnswer, IsPicked, IsStart, number_after, summary, turn_line}
+use Rattle.arimaa_cli.specs.Texts.{crowded_text}
 use Rattle.arimaa_cli.specs.Commands.Make.IsMade.{begun, unbegun}
 use Rattle.arimaa_cli.specs.Commands.Make.IsMadeFrom.{crowded, enough, over, turn}
 use Rattle.arimaa_cli.specs.Commands.Make.IsMakeAnswer.{bad, crowded as full, lawful}
@@ -79,7 +80,7 @@ module _ (law : JudgementsAgree) (asked : Making) where
   one_made a b (unbegun never) (unbegun again) = refl
 
   pub one_make : (a b : Answer) → IsMakeAnswer asked a → IsMakeAnswer asked b → a ≡ b
-  one_make a b (full p m) (full q k) = let same = one_made _ _ m k in let here : p ≡ q = cc in ap (λ (z : Position). Crowded (crowded_text z)) here
+  one_make a b (full p m) (full q k) = let same = one_made _ _ m k in let here : p ≡ q = cc in ap (λ (z : Position). Crowded (crowded_text z 1)) here
   one_make a b (full p m) (lawful t h n e l k j) = let same = one_made _ _ m k in cc
   one_make a b (full p m) (bad t n d r k j) = let same = one_made _ _ m k in cc
   one_make a b (lawful t h n e l k j) (full p m) = let same = one_made _ _ k m in cc

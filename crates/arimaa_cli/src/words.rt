@@ -3,7 +3,7 @@ ghost use Rattle.std.specs.Prelude.{◌≡◌, ◌<◌, ◌^◌, ◌≤◌, ◌�
 ghost use Rattle.std.specs.Fmt.{decimal};
 ghost use Rattle.arimaa_board.specs.declared.piece.Color.{Color as Side};
 ghost use Rattle.arimaa_judge.specs.Texts.{side_word};
-ghost use Rattle.arimaa_cli.specs.declared.commands.Asked.{Asked as Inquiry};
+ghost use Rattle.arimaa_cli.specs.declared.commands.prove.Asked.{Asked as Inquiry};
 ghost use Rattle.arimaa_cli.specs.declared.commands.Command.{Command as Order};
 ghost use Rattle.arimaa_cli.specs.declared.commands.make.Making.{Making as Wish};
 ghost use Rattle.arimaa_cli.specs.declared.commands.Command.TheVariants as order;
@@ -11,6 +11,7 @@ ghost use Rattle.arimaa_cli.specs.declared.commands.Question.TheVariants as ques
 ghost use Rattle.arimaa_cli.specs.Commands.{AreWords, IsNamed, IsTextWord};
 
 use crate::commands::{Asked, Command, MOST_MADE, MOST_TURNS, Making, Question};
+use crate::options::read_options;
 use arimaa_board::Color;
 use arimaa_outside::CommandWords;
 use arimaa_record::read_number;
@@ -60,24 +61,8 @@ fn read_side(word: &str) -> Option<Color>
     }
 }
 
-// The number of turns that a word gives in decimal digits.
-fn read_depth(word: &str) -> Option<u8>
-    ensures { (n : ℕ) → (result ≡ Some n) ↔ ((n ≤ MOST_TURNS) × (word.now ≡ decimal n)) }
-{
-    match read_number(word.as_bytes()) {
-        None => None,
-        Some(number) => {
-            if number <= MOST_TURNS as u64 {
-                Some(number as u8)
-            } else {
-                None
-            }
-        }
-    }
-}
-
 // The number up to a bound that a word gives in decimal digits.
-fn read_up_to(word: &str, most: u64) -> Option<u64>
+pub(crate) fn read_up_to(word: &str, most: u64) -> Option<u64>
     ensures { (n : ℕ) → (result ≡ Some n) ↔ ((n ≤ most) × (word.now ≡ decimal n)) }
 {
     match read_number(word.as_bytes()) {
@@ -96,18 +81,23 @@ fn is_text(word: &[u8]) -> bool
     }
 }
 
-// What the words ask of `prove`: the name, a side and a number of turns.
+// What the words ask of `prove`: the name, a side, a number of turns, and options.
 fn read_prove(words: &CommandWords) -> Option<Asked>
-    ensures form { IfSome result (λ asked. AreWords words.now (order.About (question.Prove asked))) }
+    ensures form { IfSome result (λ asked. AreWords words.now (order.Prove asked)) }
     ensures none { IfNone result ((asked : Inquiry)
-        → ¬ AreWords words.now (order.About (question.Prove asked))) }
+        → ¬ AreWords words.now (order.Prove asked)) }
 {
-    if !is_named(words, "prove", 3) {
+    if words.get(0)? != "prove" {
         return None;
     }
     let attacker = read_side(words.get(1)?)?;
-    let depth = read_depth(words.get(2)?)?;
-    Some(Asked { attacker, depth })
+    let depth = read_up_to(words.get(2)?, MOST_TURNS as u64)? as u8;
+    let settings = read_options(words, 3)?;
+    Some(Asked {
+        attacker,
+        depth,
+        settings,
+    })
 }
 
 // What the words ask of `make`: the name, a number and a number of turns.
@@ -153,7 +143,7 @@ pub fn read_command(words: &CommandWords) -> Option<Command<'_>>
         return Some(Command::About(Question::Show));
     }
     if let Some(asked) = read_prove(words) {
-        return Some(Command::About(Question::Prove(asked)));
+        return Some(Command::Prove(asked));
     }
     if let Some(text) = read_control(words) {
         return Some(Command::Control(text));

@@ -731,8 +731,8 @@ const LAST_POSITIONS: [Row<'static>; 24] = [
     Row {
         words: "prove gold 20",
         input: "1g resigns\n",
-        output: "not built\n",
-        status: Status::NotBuilt,
+        output: "ended resign\n",
+        status: Status::Answered,
     },
     // closed before there is a position
     Row {

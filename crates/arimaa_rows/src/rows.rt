@@ -32,19 +32,19 @@ const ROWS: [Row<'static>; 35] = [
         output: "no\n",
         status: Status::Answered,
     },
-    // two turns are not built yet
+    // more turns change nothing
     Row {
         words: "prove gold 2",
         input: "start 2g [        R      r                   E                            ]\n",
-        output: "not built\n",
-        status: Status::NotBuilt,
+        output: "yes 1\nstrategy\n1 [        R      r                   E                            ] Ra7n\n",
+        status: Status::Done,
     },
-    // nor are twenty
+    // Silver does not win
     Row {
-        words: "prove silver 20",
+        words: "prove silver 1",
         input: "start 2g [        R      r                   E                            ]\n",
-        output: "not built\n",
-        status: Status::NotBuilt,
+        output: "no\n",
+        status: Status::Answered,
     },
     // pushes and pulls are in reach, and change nothing
     Row {
@@ -268,7 +268,7 @@ const BAD_WORDS: [&str; 19] = [
     "prove gold +1",
     "prove gold 21",
     "prove gold 1 1",
-    "prove gold 1 --workers 2",
+    "prove gold 1 --workers",
     "prove gold one",
     "make 5",
     "make 7 1001",

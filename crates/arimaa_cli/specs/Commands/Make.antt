@@ -3,7 +3,7 @@ use Rattle.std.specs.Prelude.{◌≡◌, ◌<◌, ◌≤◌, ℕ, zero, suc, ◌
 use Rattle.std.specs.Fmt.{decimal}
 use Rattle.arimaa_board.specs.declared.position.Position.{Position}
 use Rattle.arimaa_board.specs.declared.position.Step.{Step}
-use Rattle.arimaa_board.specs.Text.{text_of}
+use Rattle.arimaa_forced.specs.Entries.{steps_with_marks}
 use Rattle.arimaa_judge.specs.declared.judging.Judged.TheVariants as judgement
 use Rattle.arimaa_judge.specs.declared.rule.Rule.{Rule}
 use Rattle.arimaa_judge.specs.Judged.{IsJudged}
@@ -14,13 +14,13 @@ use Rattle.arimaa_model.specs.Results.{next}
 use Rattle.arimaa_model.specs.Strategies.{first_turn}
 use Rattle.arimaa_record.specs.declared.label.Label.{Label}
 use Rattle.arimaa_record.specs.declared.line.RecordLine.TheVariants as lines
-use Rattle.arimaa_record.specs.Label.{letter_of_side, next_label}
+use Rattle.arimaa_record.specs.Label.{next_label}
 use Rattle.arimaa_record.specs.Written.{ended_line}
 use Rattle.arimaa_cli.specs.declared.answer.Answer.{Answer}
 use Rattle.arimaa_cli.specs.declared.answer.Answer.TheVariants.{Answered, Crowded, Done}
 use Rattle.arimaa_cli.specs.declared.commands.make.Making.{Making}
+use Rattle.arimaa_cli.specs.Texts.{crowded_text}
 use Rattle.arimaa_cli.specs.declared.commands.make.TheConstants.{MOST_PLACES, SETUPS}
-use Rattle.arimaa_cli.specs.Noted.{noted_of}
 
 -- the number that the generator goes on with
 abbrev pub number_after : ℕ → ℕ
@@ -35,7 +35,7 @@ pub record IsPicked (number : ℕ) (barred : List Position) (p q : Position) (tu
 
 -- the line of a turn, with its removal marks
 abbrev pub turn_line : Label → Position → List Step → List ℕ
-turn_line due p turn = ended_line (lines.Turn due.number due.side (noted_of p.board turn))
+turn_line due p turn = ended_line (lines.Turn due.number due.side (steps_with_marks p.board turn))
 
 -- the game goes on, and stands at this position
 pub record GoesOnAt (h : List Position) (p : Position) : Type 0 where
@@ -84,11 +84,6 @@ abbrev pub made_of : Option Position → List ℕ → Result (List ℕ) Position
 made_of None text = Ok text
 made_of (Some p) text = Err p
 
--- the position whose list is too long
-abbrev pub crowded_text : Position → List ℕ
-crowded_text p =
-    line (codes "crowded " ++ letter_of_side p.side ∷ 32 ∷ text_of p.board ++ codes " 1")
-
 -- a record that was made: the numbers of its turns and its bytes, and how its game stands
 abbrev pub summary : ℕ → ℕ → Option Ending → Label → List ℕ
 summary turns bytes ended next =
@@ -99,7 +94,7 @@ summary turns bytes ended next =
 pub data IsMakeAnswer (asked : Making) : Answer → Type 0 where
   -- a list is too long
   crowded : (p : Position) → IsMade asked (Err p)
-      → IsMakeAnswer asked (Crowded (crowded_text p))
+      → IsMakeAnswer asked (Crowded (crowded_text p 1))
   -- a lawful record
   lawful : (text : List ℕ) (history : List Position) (turns : ℕ) (ended : Option Ending)
       (next : Label) → IsMade asked (Ok text)

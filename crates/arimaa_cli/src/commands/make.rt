@@ -2,16 +2,17 @@
 ghost use Rattle.std.specs.Prelude.{◌≡◌, ℕ, IsTrue, slice_get, ◌≤◌, ◌<◌, ◌++◌, ◌∷◌, [], Some, None, IfOk, IfSome, IfNone, OnOk, Option, length};
 ghost use Rattle.arimaa_board.specs.Fit.{IsFit};
 ghost use Rattle.arimaa_board.specs.declared.position.Position.{Position as Place};
+ghost use Rattle.arimaa_forced.specs.Entries.{steps_with_marks};
 ghost use Rattle.arimaa_record.specs.declared.label.Label.{Label as Due};
 ghost use Rattle.arimaa_game.specs.Play.{begun, ending_of, grown};
 ghost use Rattle.arimaa_model.specs.Game.{barred_by, present};
 ghost use Rattle.arimaa_model.specs.Results.{next, result_of};
 ghost use Rattle.arimaa_model.specs.Turns.{is_turn};
-ghost use Rattle.arimaa_cli.specs.Commands.Make.{IsMade, IsMadeFrom, IsMakeAnswer, IsPicked, IsStart, crowded_text, made_of, number_after, summary, turn_line};
+ghost use Rattle.arimaa_cli.specs.Commands.Make.{IsMade, IsMadeFrom, IsMakeAnswer, IsPicked, IsStart, made_of, number_after, summary, turn_line};
 
 use crate::answer::{Answer, Text, push_number};
-use crate::winning::noted;
-use arimaa_board::{Color, Position, Turn, board_text};
+use crate::texts::crowded_text;
+use arimaa_board::{Noted, Position, Turn};
 use arimaa_game::{Game, GameFault};
 use arimaa_history::Barred;
 use arimaa_judge::{Judged, bad_text, judge, judgements_agree, push_state};
@@ -19,6 +20,7 @@ use arimaa_model::Ending;
 use arimaa_record::{Label, RecordLine, push_line};
 use arimaa_region::Region;
 use arimaa_results::{first_turn, results};
+use arimaa_step::note;
 use std::alloc::{AllocError, Global};
 
 /// The most turns that may be asked for.
@@ -96,6 +98,18 @@ fn play(game: &mut Game, turn: &Turn, p: &Position, q: &Position) -> Result<(), 
             GameFault::Memory => Err(AllocError),
             _ => unreachable!(),
         },
+    }
+}
+
+// A turn with its removal marks.
+fn noted(p: &Position, turn: &Turn) -> Noted
+    requires { IsTrue (is_turn p.now.board p.now.side turn.now) }
+    ensures { result ≡ steps_with_marks p.now.board turn.now }
+{
+    let _few = turn.steps();
+    match note(p, turn) {
+        Ok(noted) => noted,
+        Err(_) => unreachable!(),
     }
 }
 
@@ -202,22 +216,6 @@ fn make(alloc: Global, asked: Making) -> Result<Made, AllocError>
     }
 }
 
-// The text about a position whose list is too long.
-fn crowded_text(alloc: Global, p: &Position) -> Result<Vec<u8>, AllocError>
-    ensures { IfOk result (λ text. text.items ≡ crowded_text p.now) }
-{
-    let side = match p.side {
-        Color::Gold => b'g',
-        Color::Silver => b's',
-    };
-    let mut text = Vec::from_slice(alloc, b"crowded ")?;
-    text.push(side)?;
-    text.push(b' ')?;
-    text.extend_from_slice(&board_text(&p.board))?;
-    text.extend_from_slice(b" 1\n")?;
-    Ok(text)
-}
-
 // The text about a lawful record of so many turns and bytes.
 fn summary(
     alloc: Global,
@@ -243,7 +241,7 @@ pub(crate) fn answer(alloc: Global, asked: &Making) -> Result<Answer, AllocError
 {
     let Made { text, crowded } = make(alloc, *asked)?;
     match crowded {
-        Some(p) => Ok(Answer::Crowded(Text::new(crowded_text(alloc, &p)?))),
+        Some(p) => Ok(Answer::Crowded(Text::new(crowded_text(alloc, &p, 1)?))),
         None => match judge(alloc, &text)? {
             Judged::Bad { line, label, rule } => {
                 Ok(Answer::Answered(Text::new(bad_text(alloc, line, label, rule)?)))

@@ -1,14 +1,12 @@
-use Rattle.arimaa_cli.specs.Commands.IsAnswer.{asked, bad_words}
-use Rattle.arimaa_cli.proofs.Ends.{found_for}
+use Rattle.std.proofs.Common.{List, ℕ, subst}
+use Rattle.arimaa_cli.specs.Commands.{IsAnswerOf}
+use Rattle.arimaa_cli.proofs.Ends.{answer_found}
 use Rattle.arimaa_cli.proofs.calls.find.Goals as goal
 
-pub returns-in-None-clause-answer : goal.returns-in-None-clause-answer
-returns-in-None-clause-answer g c = λ bytes input fault memory. bad_words c.in-None.ensures.none
+pub command_answer-requires-after_bounds : goal.command_answer-requires-after_bounds
+command_answer-requires-after_bounds g c κs within = c.in-Ok.ensures.asks.in_form.in_range
 
-pub returns-in-Some-clause-answer : goal.returns-in-Some-clause-answer
-returns-in-Some-clause-answer g c = λ bytes input fault memory.
-    let asks = c.in-Some.ensures.form in
-    asked c.in-Some.command asks c.command_answer.result (c.command_answer.ensures.answer bytes (λ reads. input (c.in-Some.command, asks, reads)) fault memory)
-
-pub returns-in-Some-clause-finds : goal.returns-in-Some-clause-finds
-returns-in-Some-clause-finds g c = found_for c.args.call c.args.words.now c.in-Some.command c.in-Some.ensures.form c.command_answer.result _ _ _ _ c.command_answer.ensures.finds
+pub returns-in_ok-command_answer-in-Ok-clause-answer : goal.returns-in_ok-command_answer-in-Ok-clause-answer
+returns-in_ok-command_answer-in-Ok-clause-answer g c = λ bytes input fault memory.
+    answer_found c.args.call c.args.words.now bytes c.in-Ok.asking.command c.in-Ok.asking.bytes.items (c.in-Ok.ensures.asked bytes input) c.in_ok-command_answer-in-Ok.field-0
+    (subst (λ (b : List ℕ). IsAnswerOf b c.in-Ok.asking.command c.in_ok-command_answer-in-Ok.field-0) c.deref.ensures.value c.in_ok-command_answer-in-Ok.ensures)
