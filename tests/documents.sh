@@ -1,6 +1,6 @@
 #!/usr/bin/env bash
-# Runs each command that README.md and docs/help.txt show with its output, a line `$ ./arimaa ..`, and compares what it
-# writes with the lines below it; judges each record of examples/rules, and compares the answer with the one that
+# Runs each command that README.md, docs/help.txt and docs/MANY-RECORDS.md show with its output, a line `$ ..`, and
+# compares what it writes with the lines below it; judges each record of examples/rules, and compares the answer with the one that
 # examples/rules/ANSWERS gives; says whether docs/DEFINITIONS.md is up to date. Ends with status 1 where something differs.
 set -u
 cd "$(dirname "${BASH_SOURCE[0]}")/.." || exit 1
@@ -25,14 +25,12 @@ shown() {
     END { if (on) printf "\f" }' "$1"
 }
 
-for page in README.md docs/help.txt; do
+for page in README.md docs/help.txt docs/MANY-RECORDS.md; do
   while IFS= read -r -d $'\f' block; do
     command=${block%%$'\n'*}
     expected=${block#"$command"}
     expected=${expected#$'\n'}
-    case $command in
-      './arimaa '*) [ -n "$expected" ] && compare "$page: $command" "${expected%$'\n'}" "$(bash -c "$command" 2>/dev/null)" ;;
-    esac
+    [ -n "$expected" ] && compare "$page: $command" "${expected%$'\n'}" "$(bash -c "$command" 2>/dev/null)"
   done < <(shown "$page")
 done
 
