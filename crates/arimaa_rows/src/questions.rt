@@ -574,7 +574,11 @@ fn ask_all<R: AllocGlobal + Threads + Sync + Abort>(
         } else {
             2
         };
-        assert_eq!(rt; lines(&done.output), head + question.entries, "{words}");
+        assert_eq!(rt;
+            lines(&done.output),
+            question.entries.saturating_add(head),
+            "{words}"
+        );
     }
     Ok(())
 }
