@@ -11,10 +11,12 @@ pub record Tally : Type 0 where
 abbrev pub NextFails : Tally → Type 0
 NextFails calls = Contains calls.fails (calls.made + 1)
 
--- one call more was made; the count ends at the last number of 64 bits, which no list of them goes beyond
+-- one call more was made; the count ends at the last number of 64 bits, which no list of them goes
+-- beyond
 abbrev pub after_success : Tally → Tally
 after_success calls = record calls { made = min (calls.made + 1) (2 ^ 64 - 1) }
 
 -- one call more was made, and has failed
 abbrev pub after_fault : Tally → Tally
-after_fault calls = record calls { made = min (calls.made + 1) (2 ^ 64 - 1); faults = min (calls.faults + 1) (2 ^ 64 - 1) }
+after_fault calls = record calls
+    { made = min (calls.made + 1) (2 ^ 64 - 1); faults = min (calls.faults + 1) (2 ^ 64 - 1) }

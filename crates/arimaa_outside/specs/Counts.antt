@@ -17,7 +17,11 @@ capped_sum a b = min (a + b) (2 ^ 64 - 1)
 
 -- Both counts together.
 abbrev pub sum_of_counts : Counts → Counts → Counts
-sum_of_counts some more = record { faults = capped_sum some.faults more.faults; stops = capped_sum some.stops more.stops; lines = capped_sum some.lines more.lines }
+sum_of_counts some more = record {
+  faults = capped_sum some.faults more.faults;
+  stops = capped_sum some.stops more.stops;
+  lines = capped_sum some.lines more.lines;
+}
 
 -- No count falls.
 pub record NeverFall (before now : Counts) : Type 0 where

@@ -8,7 +8,8 @@ use Rattle.arimaa_outside.specs.declared.port_answer.PortAnswer.TheVariants as a
 use Rattle.arimaa_outside.specs.declared.said.Said.{Said}
 use Rattle.arimaa_outside.specs.declared.said.Said.TheVariants as said
 
--- what is left of its script, the lines that it was sent, what it answered, its calls, its stops and its lines
+-- what is left of its script, the lines that it was sent, what it answered, its calls, its stops
+-- and its lines
 pub record Talking : Type 0 where
   pub left : List Said
   pub sent : List (List ℕ)
@@ -23,7 +24,8 @@ port_counts port = record { faults = port.calls.faults; stops = port.stops; line
 
 -- A line with more bytes than the limit is too long.
 abbrev pub within_limit : Said → Said
-within_limit (said.Line line) = if nat_le (length line) LINE_LIMIT then said.Line line else said.Long
+within_limit (said.Line line) = if nat_le
+    (length line) LINE_LIMIT then said.Line line else said.Long
 within_limit said.Ended = said.Ended
 within_limit said.Long = said.Long
 
@@ -46,12 +48,23 @@ lines_after said.Long lines = lines
 
 -- the port once it was sent this line
 abbrev pub after_sending : Talking → List ℕ → Talking
-after_sending port line = record port { sent = port.sent ++ line ∷ []; answers = port.answers ++ answer.Sent ∷ []; calls = after_success port.calls }
+after_sending port line = record port {
+  sent = port.sent ++ line ∷ [];
+  answers = port.answers ++ answer.Sent ∷ [];
+  calls = after_success port.calls;
+}
 
 -- the port once this was heard of it
 abbrev pub after_hearing : Talking → Said → Talking
-after_hearing port words = record port { left = drop 1 port.left; answers = port.answers ++ answer.Heard words ∷ []; calls = after_success port.calls; stops = stops_after words port.stops; lines = lines_after words port.lines }
+after_hearing port words = record port {
+  left = drop 1 port.left;
+  answers = port.answers ++ answer.Heard words ∷ [];
+  calls = after_success port.calls;
+  stops = stops_after words port.stops;
+  lines = lines_after words port.lines;
+}
 
 -- the port once a call has failed
 abbrev pub after_failing : Talking → Talking
-after_failing port = record port { answers = port.answers ++ answer.Failed ∷ []; calls = after_fault port.calls }
+after_failing port = record port
+    { answers = port.answers ++ answer.Failed ∷ []; calls = after_fault port.calls }

@@ -26,8 +26,10 @@ opened_count answers = count_by is_opened answers
 
 -- Where both are told, fewer links were taken back than handed out.
 abbrev pub TookBackFewer : {L : Type 0} → Option (List L) → Option (List OpenAnswer) → Type 0
-TookBackFewer back answers = IfSome back (λ back. IfSome answers (λ answers. length back < opened_count answers))
+TookBackFewer back answers = IfSome back
+    (λ back. IfSome answers (λ answers. length back < opened_count answers))
 
 -- Where both are told, no more links were taken back than handed out.
 abbrev pub TookBackNoMore : {L : Type 0} → Option (List L) → Option (List OpenAnswer) → Type 0
-TookBackNoMore back answers = IfSome back (λ back. IfSome answers (λ answers. length back ≤ opened_count answers))
+TookBackNoMore back answers = IfSome back
+    (λ back. IfSome answers (λ answers. length back ≤ opened_count answers))

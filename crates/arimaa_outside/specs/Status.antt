@@ -1,7 +1,7 @@
 -- The exit code of each status.
 use Rattle.std.specs.Prelude.{ℕ}
 use Rattle.arimaa_outside.specs.declared.status.Status.{Status}
-use Rattle.arimaa_outside.specs.declared.status.Status.TheVariants.{Done, Answered, Words, ReadFault, WriteFault, EngineFault, Spent, Crowded, Memory, TooLong, NotBuilt}
+use Rattle.arimaa_outside.specs.declared.status.Status.TheVariants.{Done, Answered, Words, ReadFault, WriteFault, EngineFault, Spent, Crowded, Memory, TooLong}
 
 -- the exit code of the process
 abbrev pub exit_code : Status → ℕ
@@ -15,4 +15,3 @@ exit_code Spent = 6
 exit_code Crowded = 7
 exit_code Memory = 8
 exit_code TooLong = 9
-exit_code NotBuilt = 10

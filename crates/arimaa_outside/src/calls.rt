@@ -52,7 +52,8 @@ impl Calls {
 
     /// Counts the fault of a call that was begun.
     pub fn fault(&mut self) -> Failed
-        ensures counted { self.new ≡ record self.old { faults = min (self.old.faults + 1) (2 ^ 64 - 1) } }
+        ensures counted { self.new
+            ≡ record self.old { faults = min (self.old.faults + 1) (2 ^ 64 - 1) } }
         ensures never_falls { self.old.faults ≤ self.new.faults }
     {
         self.faults = self.faults.saturating_add(1);
@@ -75,7 +76,8 @@ impl Calls {
     }
 }
 
-// Whether the call after so many is one that fails. The numbers of 64 bits end before the call that has none.
+// Whether the call after so many is one that fails. The numbers of 64 bits end before the call that
+// has none.
 fn fails_after(fails: &[u64], made: u64) -> bool
     ensures { IsTrue result ↔ Contains fails.now (made + 1) }
 {

@@ -1,6 +1,7 @@
-//! Where the program meets the world: readers, writers, engines, the time, the words of a command line and
-//! its status. The objects in memory tell what they hold and what they gave, so that what is proved of a
-//! command over them speaks of bytes, lines and moments. Those over real ones tell nothing and are trusted.
+//! Where the program meets the world: readers, writers, engines, the time, the words of a command
+//! line and its status. The objects in memory tell what they hold and what they gave, so that what
+//! is proved of a command over them speaks of bytes, lines and moments. Those over real ones tell
+//! nothing and are trusted.
 #![tactic(auto)]
 
 mod bytes;

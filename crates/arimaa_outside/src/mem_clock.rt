@@ -7,8 +7,8 @@ ghost use Rattle.arimaa_outside.specs.Told.{TellsMore};
 use crate::clock::Clock;
 use std::marker::Model;
 
-/// A clock that gives these moments and tells which it gave. Then it repeats the last of them, or 0 where
-/// there are none. It tells no more once it has repeated it 2^64 - 1 times.
+/// A clock that gives these moments and tells which it gave. Then it repeats the last of them, or 0
+/// where there are none. It tells no more once it has repeated it 2^64 - 1 times.
 #[derive(Drop)]
 pub struct MemClock {
     moments: Vec<u64>,

@@ -18,8 +18,9 @@ use crate::said::Said;
 use std::alloc::{AllocError, Global};
 use std::marker::Model;
 
-/// A port that says what stands in its script, keeps the lines that it is sent, and tells both. After the
-/// script nothing more comes. Each call that is to fail fails, and takes nothing of the script.
+/// A port that says what stands in its script, keeps the lines that it is sent, and tells both.
+/// After the script nothing more comes. Each call that is to fail fails, and takes nothing of the
+/// script.
 #[derive(Drop)]
 pub struct MemPort {
     alloc: Global,
@@ -51,8 +52,9 @@ impl Model for MemPort {
 }
 
 impl MemPort {
-    /// A port with this script. `fails` has the numbers of the calls that fail, counted from 1 over `send`
-    /// and `receive` together. A call that finds no memory is not counted. It takes no memory.
+    /// A port with this script. `fails` has the numbers of the calls that fail, counted from 1 over
+    /// `send` and `receive` together. A call that finds no memory is not counted. It takes no
+    /// memory.
     pub fn new(alloc: Global, script: Vec<Said>, fails: Vec<u64>) -> Self
         ensures { result ≡ record {
           left = script.items;
@@ -129,8 +131,10 @@ impl Port for MemPort {
         ensures sent { OnOk result (self.new.sent ≡ self.old.sent ++ line.now ∷ []) }
         ensures kept { OnErr result (self.new.sent ≡ self.old.sent) }
         ensures answer { self.new.answers ≡ self.old.answers ++ send_answer result }
-        ensures sound { ¬ IsErrOf result PortFault.Failed → self.new.calls.faults ≡ self.old.calls.faults }
-        ensures failed { IsErrOf result PortFault.Failed → HasRisen self.old.calls.faults self.new.calls.faults }
+        ensures sound { ¬ IsErrOf result PortFault.Failed
+            → self.new.calls.faults ≡ self.old.calls.faults }
+        ensures failed { IsErrOf result PortFault.Failed
+            → HasRisen self.old.calls.faults self.new.calls.faults }
         ensures never_falls { NeverFall (port_counts self.old) (port_counts self.new) }
     {
         let line = Bytes::copied(self.alloc, line)?;
@@ -151,20 +155,24 @@ impl Port for MemPort {
 
     fn receive(&mut self, line: &mut Vec<u8>) -> Result<Heard, PortFault>
         ensures fails { NextFails self.old.calls → IsErr result }
-        ensures said { IfOk result (λ heard. said_as heard line.new.items ≡ next_said self.old.left) }
+        ensures said { IfOk result
+            (λ heard. said_as heard line.new.items ≡ next_said self.old.left) }
         ensures ok { OnOk result (self.new ≡ after_hearing self.old (next_said self.old.left)) }
         ensures memory { IsErrOf result PortFault.Memory → self.new ≡ self.old }
         ensures only_then { IsErrOf result PortFault.Failed → NextFails self.old.calls }
         ensures fault { IsErrOf result PortFault.Failed → self.new ≡ after_failing self.old }
 
         ensures kept { self.new.sent ≡ self.old.sent }
-        ensures answer { self.new.answers ≡ self.old.answers ++ receive_answer result line.new.items }
+        ensures answer { self.new.answers ≡ self.old.answers
+            ++ receive_answer result line.new.items }
         ensures limit { result ≡ Ok Heard.Line → vec_len line.new ≤ LINE_LIMIT }
         ensures line { result ≡ Ok Heard.Line → HasRisen self.old.lines self.new.lines }
         ensures ended { result ≡ Ok Heard.Ended → HasRisen self.old.stops self.new.stops }
         ensures long { result ≡ Ok Heard.Long → HasRisen self.old.stops self.new.stops }
-        ensures sound { ¬ IsErrOf result PortFault.Failed → self.new.calls.faults ≡ self.old.calls.faults }
-        ensures failed { IsErrOf result PortFault.Failed → HasRisen self.old.calls.faults self.new.calls.faults }
+        ensures sound { ¬ IsErrOf result PortFault.Failed
+            → self.new.calls.faults ≡ self.old.calls.faults }
+        ensures failed { IsErrOf result PortFault.Failed
+            → HasRisen self.old.calls.faults self.new.calls.faults }
         ensures never_falls { NeverFall (port_counts self.old) (port_counts self.new) }
     {
         let said = self.next_said()?;

@@ -8,8 +8,8 @@ use crate::sink::Sink;
 use std::alloc::Global;
 use std::marker::Model;
 
-/// A sink that keeps what was written, and tells it. Each call that is to fail fails, and so does one that
-/// finds no memory.
+/// A sink that keeps what was written, and tells it. Each call that is to fail fails, and so does
+/// one that finds no memory.
 #[derive(Drop)]
 pub struct MemSink {
     bytes: Vec<u8>,
@@ -29,8 +29,8 @@ impl Model for MemSink {
 }
 
 impl MemSink {
-    /// An empty sink, of which a call takes at most `piece` bytes. `fails` has the numbers of the calls that
-    /// fail, from 1. It takes no memory.
+    /// An empty sink, of which a call takes at most `piece` bytes. `fails` has the numbers of the
+    /// calls that fail, from 1. It takes no memory.
     pub fn new(alloc: Global, piece: usize, fails: Vec<u64>) -> Self
         requires { 1 ≤ piece }
         ensures { result ≡ record {
@@ -63,8 +63,12 @@ impl Sink for MemSink {
         ensures fails { NextFails self.old.calls → IsErr result }
         ensures count { IfOk result (λ n. n ≡ min self.old.piece (length bytes.now)) }
         ensures ok { IfOk result (λ n. self.new
-            ≡ record self.old { written = self.old.written ++ take n bytes.now; calls = after_success self.old.calls }) }
-        ensures err { OnErr result (self.new ≡ record self.old { calls = after_fault self.old.calls }) }
+            ≡ record self.old {
+              written = self.old.written ++ take n bytes.now;
+              calls = after_success self.old.calls;
+            }) }
+        ensures err { OnErr result
+            (self.new ≡ record self.old { calls = after_fault self.old.calls }) }
 
         ensures progress { IfOk result (λ n. 0 < length bytes.now → 0 < n) }
         ensures never_falls { self.old.calls.faults ≤ self.new.calls.faults }

@@ -24,14 +24,18 @@ impl Model for MemSource {
 
     ghost Value = { Reading };
 
-    ghost view = { λ s. record { left = drop s.at s.bytes.items; piece = s.piece; calls = s.calls } };
+    ghost view = { λ s. record {
+      left = drop s.at s.bytes.items;
+      piece = s.piece;
+      calls = s.calls;
+    } };
 
     ghost invariant = { λ s. (s.at ≤ vec_len s.bytes) × (1 ≤ s.piece) };
 }
 
 impl MemSource {
-    /// A source of these bytes, of which a call gives at most `piece`. `fails` has the numbers of the calls
-    /// that fail, from 1.
+    /// A source of these bytes, of which a call gives at most `piece`. `fails` has the numbers of
+    /// the calls that fail, from 1.
     pub fn new(bytes: Vec<u8>, piece: usize, fails: Vec<u64>) -> Self
         requires { 1 ≤ piece }
         ensures { result ≡ record {
@@ -59,8 +63,12 @@ impl Source for MemSource {
         ensures count { IfOk result (λ n. n ≡ read_len self.old (length buf.old)) }
         ensures bytes { IfOk result (λ n. buf.new ≡ take n self.old.left ++ drop n buf.old) }
         ensures ok { IfOk result (λ n. self.new
-            ≡ record self.old { left = drop n self.old.left; calls = after_success self.old.calls }) }
-        ensures err { OnErr result (self.new ≡ record self.old { calls = after_fault self.old.calls }) }
+            ≡ record self.old {
+              left = drop n self.old.left;
+              calls = after_success self.old.calls;
+            }) }
+        ensures err { OnErr result
+            (self.new ≡ record self.old { calls = after_fault self.old.calls }) }
 
         ensures end { IfOk result (λ n. n ≡ 0 → 0 < length buf.new → IsAtEnd (Some self.new.left)) }
         ensures never_falls { self.old.calls.faults ≤ self.new.calls.faults }

@@ -19,8 +19,9 @@ use std::alloc::{AllocError, Global};
 use std::marker::Model;
 use std::vec::IntoIter;
 
-/// A spawner that hands out these ports in order, whatever the program, and keeps those that it takes back.
-/// It tells both. A call of `open` fails where it is one that is to fail, and where no port is left.
+/// A spawner that hands out these ports in order, whatever the program, and keeps those that it
+/// takes back. It tells both. A call of `open` fails where it is one that is to fail, and where no
+/// port is left.
 #[derive(Drop)]
 pub struct MemSpawner {
     waiting: IntoIter<MemPort>,
@@ -51,13 +52,14 @@ impl Model for MemSpawner {
     // There is room for each port that may come back.
     ghost invariant = { λ s. All IsFresh (into_iter_items s.waiting)
         × (vec_len s.back ≤ opened_count s.answers.items)
-        × (opened_count s.answers.items + length (into_iter_items s.waiting) ≤ vec_capacity s.back) };
+        × (opened_count s.answers.items + length (into_iter_items s.waiting)
+        ≤ vec_capacity s.back) };
 }
 
 impl MemSpawner {
-    /// A spawner of these ports, which have counted nothing yet. `fails` has the numbers of the calls of
-    /// `open` that fail, from 1. A call that finds no memory is not counted. It takes the room for the ports
-    /// that come back, so that `close` takes no memory.
+    /// A spawner of these ports, which have counted nothing yet. `fails` has the numbers of the
+    /// calls of `open` that fail, from 1. A call that finds no memory is not counted. It takes the
+    /// room for the ports that come back, so that `close` takes no memory.
     ///
     /// # Errors
     ///
@@ -101,7 +103,8 @@ impl Spawner for MemSpawner {
         ensures at_end { self.old.waiting ≡ [] → IsErr result }
         ensures ok { OnOk result (self.new ≡ after_opening self.old) }
         ensures memory { IsErrOf result PortFault.Memory → self.new ≡ self.old }
-        ensures only_then { IsErrOf result PortFault.Failed → NextFails self.old.calls ⊎ (self.old.waiting ≡ []) }
+        ensures only_then { IsErrOf result PortFault.Failed
+            → NextFails self.old.calls ⊎ (self.old.waiting ≡ []) }
         ensures fault { IsErrOf result PortFault.Failed → self.new ≡ after_refusing self.old }
 
         ensures link { IfOk result (λ link. self.old.waiting ≡ link ∷ self.new.waiting) }
@@ -110,8 +113,10 @@ impl Spawner for MemSpawner {
         ensures answer { self.new.answers ≡ self.old.answers ++ open_answer result }
         ensures back { self.new.back ≡ self.old.back }
         ensures balance { length self.old.back ≤ opened_count self.old.answers }
-        ensures sound { ¬ IsErrOf result PortFault.Failed → spawner_counts self.new ≡ spawner_counts self.old }
-        ensures failed { IsErrOf result PortFault.Failed → HasRisen self.old.calls.faults self.new.calls.faults }
+        ensures sound { ¬ IsErrOf result PortFault.Failed
+            → spawner_counts self.new ≡ spawner_counts self.old }
+        ensures failed { IsErrOf result PortFault.Failed
+            → HasRisen self.old.calls.faults self.new.calls.faults }
         ensures never_falls { NeverFall (spawner_counts self.old) (spawner_counts self.new) }
     {
         self.answers.reserve(1)?;
@@ -149,7 +154,8 @@ fn next_port(waiting: &mut IntoIter<MemPort>, calls: &mut Calls) -> Result<MemPo
     ensures fails { NextFails calls.old → IsErr result }
     ensures at_end { into_iter_items waiting.old ≡ [] → IsErr result }
     ensures only_then { OnErr result (NextFails calls.old ⊎ (into_iter_items waiting.old ≡ [])) }
-    ensures port { IfOk result (λ port. into_iter_items waiting.old ≡ port ∷ into_iter_items waiting.new) }
+    ensures port { IfOk result
+        (λ port. into_iter_items waiting.old ≡ port ∷ into_iter_items waiting.new) }
     ensures kept { OnErr result (into_iter_items waiting.new ≡ into_iter_items waiting.old) }
     ensures ok { OnOk result (calls.new ≡ after_success calls.old) }
     ensures err { OnErr result (calls.new ≡ after_fault calls.old) }

@@ -46,7 +46,8 @@ impl Said {
         }
     }
 
-    // Counts it: a line among the lines, anything else among the stops. A count ends at its last number.
+    // Counts it: a line among the lines, anything else among the stops. A count ends at its last
+    // number.
     pub(crate) fn count(&self, stops: &mut u64, lines: &mut u64)
         ensures stops { stops.new ≡ stops_after self.now stops.old }
         ensures lines { lines.new ≡ lines_after self.now lines.old }

@@ -21,7 +21,8 @@ pub trait Sink {
     fn write(&mut self, bytes: &[u8]) -> Result<usize, Failed>
         ensures bound { IfOk result (λ n. n ≤ length bytes.now) }
         ensures progress { IfOk result (λ n. 0 < length bytes.now → 0 < n) }
-        ensures added { IfOk result (λ n. contents self.new ≡ append_known (contents self.old) (take n bytes.now)) }
+        ensures added { IfOk result
+            (λ n. contents self.new ≡ append_known (contents self.old) (take n bytes.now)) }
         ensures kept { OnErr result (contents self.new ≡ contents self.old) }
 
         ensures sound { OnOk result (faults self.new ≡ faults self.old) }
@@ -35,7 +36,8 @@ pub trait Sink {
 ///
 /// `Failed` at the first write that fails. The bytes before it are written.
 pub fn write_all<S: Sink>(sink: &mut S, bytes: &[u8]) -> Result<(), Failed>
-    ensures whole { OnOk result (S.contents sink.new ≡ append_known (S.contents sink.old) bytes.now) }
+    ensures whole { OnOk result
+        (S.contents sink.new ≡ append_known (S.contents sink.old) bytes.now) }
     ensures part { OnErr result ((n : ℕ) × (n < length bytes.now)
         × (S.contents sink.new ≡ append_known (S.contents sink.old) (take n bytes.now))) }
 

@@ -22,15 +22,16 @@ pub trait Source {
     /// How many reads have failed.
     ghost faults: { Self → ℕ };
 
-    /// Takes the next bytes into the front of `buf`, and answers how many. None for a buffer that has room
-    /// is the end of the input.
+    /// Takes the next bytes into the front of `buf`, and answers how many. None for a buffer that
+    /// has room is the end of the input.
     ///
     /// # Errors
     ///
     /// `Failed` raises the count of faults, and has taken nothing.
     fn read(&mut self, buf: &mut [u8]) -> Result<usize, Failed>
         ensures bound { IfOk result (λ n. n ≤ length buf.new) }
-        ensures taken { IfOk result (λ n. remaining self.old ≡ prepend_known (take n buf.new) (remaining self.new)) }
+        ensures taken { IfOk result
+            (λ n. remaining self.old ≡ prepend_known (take n buf.new) (remaining self.new)) }
         ensures end { IfOk result (λ n. n ≡ 0 → 0 < length buf.new → IsAtEnd (remaining self.new)) }
         ensures kept { OnErr result (remaining self.new ≡ remaining self.old) }
 
@@ -76,13 +77,18 @@ impl From<AllocError> for ReadAll {
 /// `Fault` at the first read that fails, `TooLong` once more than `INPUT_LIMIT` bytes have come,
 /// `Memory` where there is no room for the bytes.
 pub fn read_all<S: Source>(alloc: Global, source: &mut S) -> Result<Vec<u8>, ReadAll>
-    ensures whole { IfOk result (λ bytes. IfSome (S.remaining source.old) (λ left. bytes.items ≡ left)) }
-    ensures end { OnOk result (S.remaining source.new ≡ option_map (λ _. []) (S.remaining source.old)) }
+    ensures whole { IfOk result
+        (λ bytes. IfSome (S.remaining source.old) (λ left. bytes.items ≡ left)) }
+    ensures end { OnOk result
+        (S.remaining source.new ≡ option_map (λ _. []) (S.remaining source.old)) }
     ensures limit { IfOk result (λ bytes. vec_len bytes ≤ INPUT_LIMIT) }
 
-    ensures too_long { IsErrOf result ReadAll.TooLong → IfSome (S.remaining source.old) (λ left. INPUT_LIMIT < length left) }
-    ensures fault { IsErrOf result ReadAll.Fault → HasRisen (S.faults source.old) (S.faults source.new) }
-    ensures lost { OnErr result ((lost : List ℕ) × (S.remaining source.old ≡ prepend_known lost (S.remaining source.new))) }
+    ensures too_long { IsErrOf result ReadAll.TooLong
+        → IfSome (S.remaining source.old) (λ left. INPUT_LIMIT < length left) }
+    ensures fault { IsErrOf result ReadAll.Fault
+        → HasRisen (S.faults source.old) (S.faults source.new) }
+    ensures lost { OnErr result
+        ((lost : List ℕ) × (S.remaining source.old ≡ prepend_known lost (S.remaining source.new))) }
 
     // No answer but `Fault` comes after a read that failed.
     ensures sound { ¬ IsErrOf result ReadAll.Fault → S.faults source.new ≡ S.faults source.old }

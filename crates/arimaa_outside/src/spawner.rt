@@ -20,20 +20,23 @@ pub trait Spawner {
     /// The links that it took back, in order, or `None` where the spawner doesn't tell.
     ghost back: { Self → Option (List Self.Link) };
 
-    /// What it answered to each call of `open` so far, in order, or `None` where the spawner doesn't tell.
+    /// What it answered to each call of `open` so far, in order, or `None` where the spawner
+    /// doesn't tell.
     ghost answers: { Self → Option (List OpenAnswer) };
 
-    /// The counts of the links that it took back, together, and how many calls of `open` have failed, among
-    /// the faults.
+    /// The counts of the links that it took back, together, and how many calls of `open` have
+    /// failed, among the faults.
     ghost counts: { Self → Counts };
 
     /// Starts a program, and hands out a link to it that has counted nothing yet.
     ///
     /// # Errors
     ///
-    /// `Failed` raises the count of faults, and hands out no link. `Memory` where no memory is left.
+    /// `Failed` raises the count of faults, and hands out no link. `Memory` where no memory is
+    /// left.
     fn open(&mut self, program: &str) -> Result<Self::Link, PortFault>
-        ensures link { IfOk result (λ link. waiting self.old ≡ told_before (link ∷ []) (waiting self.new)) }
+        ensures link { IfOk result
+            (λ link. waiting self.old ≡ told_before (link ∷ []) (waiting self.new)) }
         ensures fresh { IfOk result (λ link. Self.Link.counts link ≡ no_counts) }
         ensures kept { OnErr result (waiting self.new ≡ waiting self.old) }
         ensures answer { answers self.new ≡ told_after (answers self.old) (open_answer result) }
@@ -43,7 +46,8 @@ pub trait Spawner {
         ensures balance { TookBackNoMore (back self.old) (answers self.old) }
 
         ensures sound { ¬ IsErrOf result PortFault.Failed → counts self.new ≡ counts self.old }
-        ensures failed { IsErrOf result PortFault.Failed → HasRisen (counts self.old).faults (counts self.new).faults }
+        ensures failed { IsErrOf result PortFault.Failed
+            → HasRisen (counts self.old).faults (counts self.new).faults }
         ensures never_falls { NeverFall (counts self.old) (counts self.new) };
 
     /// Takes a link back, and adds its counts to the spawner's, which end at 2^64 - 1.

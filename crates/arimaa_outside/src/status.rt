@@ -25,8 +25,6 @@ pub enum Status {
     Memory = 8,
     /// The input has more than 67,108,864 bytes.
     TooLong = 9,
-    /// The question is one that this program can't answer yet.
-    NotBuilt = 10,
 }
 
 impl Status {

@@ -7,8 +7,9 @@ use crate::failed::Failed;
 use crate::sink::Sink;
 use std::io::Write;
 
-/// A sink over any writer. It doesn't tell what was written, and counts each error of the writer, and each
-/// time that the writer takes nothing of some bytes. What a writer holds back is not flushed.
+/// A sink over any writer. It doesn't tell what was written, and counts each error of the writer,
+/// and each time that the writer takes nothing of some bytes. What a writer holds back is not
+/// flushed.
 #[derive(Drop)]
 pub struct StdSink<W> {
     writer: W,
@@ -31,7 +32,8 @@ impl<W: Write> Sink for StdSink<W> {
 
     // Where the writer itself tells what it holds, the bytes taken are added to those.
     fn write(&mut self, bytes: &[u8]) -> Result<usize, Failed>
-        ensures writer { WriteAppends (W.contents self.old.writer) (W.contents self.new.writer) result bytes.now }
+        ensures writer { WriteAppends (W.contents self.old.writer)
+            (W.contents self.new.writer) result bytes.now }
         ensures bound { IfOk result (λ n. n ≤ length bytes.now) }
         ensures progress { IfOk result (λ n. 0 < length bytes.now → 0 < n) }
         ensures sound { OnOk result (self.new.faults ≡ self.old.faults) }

@@ -30,7 +30,8 @@ impl<R: Read> Source for StdSource<R> {
 
     // Where the reader itself tells what it has left, the bytes are the next of those.
     fn read(&mut self, buf: &mut [u8]) -> Result<usize, Failed>
-        ensures reader { ReadConsumes (R.remaining self.old.reader) (R.remaining self.new.reader) result buf.new }
+        ensures reader { ReadConsumes (R.remaining self.old.reader)
+            (R.remaining self.new.reader) result buf.new }
         ensures bound { IfOk result (λ n. n ≤ length buf.new) }
         ensures sound { OnOk result (self.new.faults ≡ self.old.faults) }
         ensures failed { OnErr result (HasRisen self.old.faults self.new.faults) }

@@ -68,6 +68,75 @@ fn a_real_input(rt: HostRuntime) -> Result<(), Fail> {
     Ok(())
 }
 
+// Moves a byte at its first call, fails at its second, and goes on after that.
+#[derive(Drop)]
+struct FailsOnce {
+    calls: u8,
+    kind: ErrorKind,
+}
+
+impl FailsOnce {
+    fn new(kind: ErrorKind) -> FailsOnce {
+        FailsOnce { calls: 0, kind }
+    }
+
+    // How many bytes of so many are moved.
+    fn moves(&mut self, size: usize) -> io::Result<usize> {
+        self.calls = self.calls.saturating_add(1);
+        if self.calls == 2 {
+            return Err(self.kind.into());
+        }
+        Ok(if size > 0 && self.calls < 9 { 1 } else { 0 })
+    }
+}
+
+impl Read for FailsOnce {
+    fn read(&mut self, buf: &mut [u8]) -> io::Result<usize> {
+        let count = self.moves(buf.len())?;
+        if count > 0 && !buf.is_empty() {
+            buf[0] = 7;
+            return Ok(1);
+        }
+        Ok(0)
+    }
+}
+
+impl Write for FailsOnce {
+    fn write(&mut self, bytes: &[u8]) -> io::Result<usize> {
+        let count = self.moves(bytes.len())?;
+        Ok(count.min(bytes.len()))
+    }
+
+    fn flush(&mut self) -> io::Result<()> {
+        Ok(())
+    }
+}
+
+// A fault is answered as one, also where the next call would go well, and whatever kind it is of.
+#[test]
+fn a_fault_in_between(rt: HostRuntime) -> Result<(), Fail> {
+    let alloc = rt.alloc();
+    for kind in [
+        ErrorKind::Other,
+        ErrorKind::Interrupted,
+        ErrorKind::WouldBlock,
+    ] {
+        let mut source = StdSource::new(FailsOnce::new(kind));
+        let mut buf = [0; 4];
+        assert_eq!(rt; source.read(&mut buf), Ok(1));
+        assert_eq!(rt; source.read(&mut buf), Err(Failed));
+        assert_eq!(rt; source.read(&mut buf), Ok(1));
+        let read = read_all(alloc, &mut StdSource::new(FailsOnce::new(kind)));
+        assert_eq!(rt; read.map(|bytes| bytes.len()), Err(ReadAll::Fault));
+        let mut sink = StdSink::new(FailsOnce::new(kind));
+        assert_eq!(rt; sink.write(b"no"), Ok(1));
+        assert_eq!(rt; sink.write(b"o"), Err(Failed));
+        assert_eq!(rt; sink.write(b"o"), Ok(1));
+        assert!(rt; write_all(&mut StdSink::new(FailsOnce::new(kind)), b"no\n").is_err());
+    }
+    Ok(())
+}
+
 // Takes nothing.
 #[derive(Drop)]
 struct Full;
@@ -101,6 +170,6 @@ fn words_and_a_status(rt: HostRuntime) -> Result<(), Fail> {
     assert_eq!(rt; words.len(), 2);
     assert_eq!(rt; words.get(1), Some("gold"));
     assert_eq!(rt; words.get(2), None);
-    assert_eq!(rt; Status::NotBuilt.code(), 10);
+    assert_eq!(rt; Status::TooLong.code(), 9);
     Ok(())
 }

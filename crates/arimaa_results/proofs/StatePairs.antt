@@ -22,6 +22,7 @@ use Rattle.arimaa_step.specs.declared.state.TurnState.{TurnState}
 use Rattle.arimaa_step.specs.Accepted.{accepts, accepts_content, AreAccepted, mask_towards}
 use Rattle.arimaa_step.specs.Next.{next_answer, next_fault, next_state}
 use Rattle.arimaa_step.specs.State.{trap_first}
+use Rattle.arimaa_step.proofs.AcceptedLaws.{and_true, and_false}
 use Rattle.arimaa_model.specs.Marks.{removed_by}
 use Rattle.arimaa_results.specs.Ahead.{made, states_by, next_states}
 use Rattle.arimaa_results.specs.NextStates.{pairs_by, next_pairs, pairs_of_content, has_step, pairs_from, pairs_left, AreAllAccepted, same_dir, IsFirstDirection, IsTaken}
@@ -62,14 +63,6 @@ by_test-all : {Y : Type 0} (t : Dir → Bool) (X : Dir → List Y) → ((d : Dir
 by_test-all t X nothing = λ i. flat_map (λ d. each d i) directions where
   each : (d : Dir) → cond (t d) (X d) [] ≡ X d
   each d = elim (t d) as (λ v. t d ≡ v → cond v (X d) [] ≡ X d) [ true ↦ λ _. refl | false ↦ λ out. sym (nothing d out) ] refl
-
-and_true : (x : Bool) → (x && true) ≡ x
-and_true true = refl
-and_true false = refl
-
-and_false : (x : Bool) → (x && false) ≡ false
-and_false true = refl
-and_false false = refl
 
 abbrev by_four : {Y : Type 0} → (Dir → List Y) → Bool → Bool → Bool → Bool → List Y
 by_four X n e s w = cond n (X North) [] ++ (cond e (X East) [] ++ (cond s (X South) [] ++ (cond w (X West) [] ++ [])))

@@ -25,11 +25,11 @@ use Rattle.arimaa_step.specs.declared.accepted.AcceptedSteps.{AcceptedSteps}
 use Rattle.arimaa_step.specs.Accepted.{AreAccepted, accepts, accepts_content, may_go, may_be_pushed, is_left, may_push, may_be_pulled}
 
 -- laws of tests
-and_true : (x : Bool) → (x && true) ≡ x
+pub and_true : (x : Bool) → (x && true) ≡ x
 and_true true = refl
 and_true false = refl
 
-and_false : (x : Bool) → (x && false) ≡ false
+pub and_false : (x : Bool) → (x && false) ≡ false
 and_false true = refl
 and_false false = refl
 

@@ -2,7 +2,6 @@ pub mod EntryLines
 pub mod TextReading
 pub mod PlainText
 pub mod ReadingBack
-pub mod KeyTests
 pub mod PlaceLaws
 pub mod Looks
 pub mod Ranks

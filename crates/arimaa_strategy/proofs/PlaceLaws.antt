@@ -10,11 +10,12 @@ use Rattle.arimaa_model.specs.Strategies.{Planned, find_entry}
 use Rattle.arimaa_record.proofs.PlainLaws.{all_append}
 use Rattle.arimaa_forced.specs.declared.entry.Entry.{Entry}
 use Rattle.arimaa_forced.specs.Entries.{planned_of}
-use Rattle.arimaa_strategy.specs.declared.key.Key.{Key}
-use Rattle.arimaa_strategy.specs.Keys.{key_of, position_at}
+use Rattle.arimaa_history.specs.declared.key.Key.{Key}
+use Rattle.arimaa_history.specs.Keys.{key_of, position_at}
 use Rattle.arimaa_strategy.specs.Entries.{plan_of, place_of}
-use Rattle.arimaa_strategy.specs.Places.{same_key, AreKept}
-use Rattle.arimaa_strategy.proofs.KeyTests.{same_keys}
+use Rattle.arimaa_history.specs.Counts.{same_key}
+use Rattle.arimaa_history.proofs.KeyTests.{keys_same}
+use Rattle.arimaa_strategy.specs.Places.{AreKept}
 
 -- the next place
 abbrev later : Option ℕ → Option ℕ
@@ -110,5 +111,5 @@ kept_more es e old new kept back some filed = record {
   steps = all_append (λ (x : Entry). 0 < length x.turn) es (e ∷ []) kept.steps (some, tt);
   placed = λ q q_back.
       filed (key_of q)
-      ∙ ((λ i. option_or (kept.placed q q_back i) (cond (same_keys e.position q back q_back i) (Some (length es)) None)) ∙ sym (place_more es e q));
+      ∙ ((λ i. option_or (kept.placed q q_back i) (cond (keys_same e.position q back q_back i) (Some (length es)) None)) ∙ sym (place_more es e q));
 }

@@ -20,7 +20,8 @@ use Rattle.arimaa_record.proofs.PlainLaws.{solid_seen}
 use Rattle.arimaa_forced.specs.declared.entry.Entry.{Entry}
 use Rattle.arimaa_strategy.specs.Text.{IsEntryText, AreLinesOf, IsStrategyText}
 use Rattle.arimaa_strategy.specs.WrittenForm.{text_of_entry, ended_entry, text_of_strategy, IsWritable}
-use Rattle.arimaa_strategy.proofs.PlainText.{decimal_seen, entry_plain, first_plain}
+use Rattle.arimaa_record.proofs.PlainLaws.{decimal_seen, first_plain}
+use Rattle.arimaa_strategy.proofs.PlainText.{entry_plain}
 
 -- the written form of an entry's turn is read as it
 abbrev pub ReadsBack : Entry → Type 0

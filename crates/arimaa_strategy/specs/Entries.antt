@@ -19,4 +19,5 @@ plan_of es = map planned_of es
 -- the number of the first entry of a position, counted from 0
 abbrev pub place_of : List Entry → Position → Option ℕ
 place_of [] p = None
-place_of (e ∷ es) p = if same_position e.position p then Some 0 else option_map (λ k. suc k) (place_of es p)
+place_of (e ∷ es) p =
+    if same_position e.position p then Some 0 else option_map (λ k. suc k) (place_of es p)

@@ -21,19 +21,24 @@ abbrev pub among_next : List Position → Position → Option Position → Optio
 among_next barred p None = None
 among_next barred p (Some r) = if stands_in (next barred p) r then Some r else None
 
--- where an entry leads: its turn is one of its position, with the right marks, and does not lead to a barred position
+-- where an entry leads: its turn is one of its position, with the right marks, and does not lead to
+-- a barred position
 abbrev pub led_to : List Position → Entry → Option Position
-led_to barred e = if has_right_marks e then among_next barred e.position (result_at (planned_of e)) else None
+led_to barred e =
+    if has_right_marks e then among_next barred e.position (result_at (planned_of e)) else None
 
 -- the fault of an entry's rank, where it leads to a position of this rank
 abbrev pub rank_fault : ℕ → ℕ → Option Why
 rank_fault rank q = if rank == suc q then None else Some why.Rank
 
 -- the fault of an entry that leads to r, by the ending of r
-abbrev pub fault_by : Color → List Position → List Planned → ℕ → Position → Option Ending → Option Why
-fault_by a barred s rank r (Some e) = if same_color e.winner a then rank_fault rank 0 else Some why.Lost
+abbrev pub fault_by : Color → List Position → List Planned → ℕ → Position → Option Ending
+    → Option Why
+fault_by a barred s rank r (Some e) =
+    if same_color e.winner a then rank_fault rank 0 else Some why.Lost
 fault_by a barred s rank r None =
-    if list_all (is_covered a s) (next barred r) then rank_fault rank (above (map (s_rank a s) (next barred r)))
+    if list_all (is_covered a s) (next barred r)
+    then rank_fault rank (above (map (s_rank a s) (next barred r)))
     else Some why.Reply
 
 -- the fault of an undecided entry, by where it leads

@@ -55,7 +55,8 @@ IfRank looks.Crowded P = Unit {0}
 abbrev pub look_by : ℕ → Color → List Position → List Planned → Position → Option Ending → Look
 look_by room a barred s p (Some e) = if same_color e.winner a then looks.Rank 0 else looks.Lost
 look_by room a barred s p None =
-    if nat_lt room (length (next barred p)) then looks.Crowded else look_of (replies_rank a s (next barred p))
+    if nat_lt room (length (next barred p)) then looks.Crowded
+    else look_of (replies_rank a s (next barred p))
 
 -- the look at a position with the defender to move
 unfoldable pub look_at : ℕ → Color → List Position → List Planned → Position → Look
@@ -87,10 +88,12 @@ answer_or number (finds.Faulty why) later = Some (checked.Refused number why)
 answer_or number (finds.Crowded q) later = Some (checked.Crowded q)
 
 -- the answer at the first entry that isn't good, among those from this number on
-abbrev pub first_answer : ℕ → Color → List Position → List Entry → ℕ → List Entry → List Entry → Option Checked
+abbrev pub first_answer : ℕ → Color → List Position → List Entry → ℕ → List Entry → List Entry
+    → Option Checked
 first_answer room a barred s number earlier [] = None
 first_answer room a barred s number earlier (e ∷ es) =
-    answer_or number (finding_at room a barred s earlier e) (first_answer room a barred s (number + 1) (earlier ++ e ∷ []) es)
+    answer_or number (finding_at room a barred s earlier e)
+    (first_answer room a barred s (number + 1) (earlier ++ e ∷ []) es)
 
 -- the look at the root
 abbrev pub root_look : ℕ → Color → List Position → List Planned → Position → Look
@@ -113,4 +116,5 @@ answer_with root (Some answer) = answer
 -- the answer of the checker
 unfoldable pub checked_of : ℕ → Color → List Position → ℕ → List Entry → Position → Checked
 checked_of room a barred n s p =
-    answer_with (root_answer n p (root_look room a barred (plan_of s) p)) (first_answer room a barred s 1 [] s)
+    answer_with (root_answer n p (root_look room a barred (plan_of s) p))
+    (first_answer room a barred s 1 [] s)

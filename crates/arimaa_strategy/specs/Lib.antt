@@ -1,5 +1,4 @@
 pub mod Entries
-pub mod Keys
 pub mod Places
 pub mod Text
 pub mod WrittenForm

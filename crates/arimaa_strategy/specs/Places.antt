@@ -3,14 +3,10 @@ use Rattle.std.specs.Prelude.{◌≡◌, Bool, ℕ, List}
 use Rattle.std.specs.HashMap.{HashMap, get}
 use Rattle.arimaa_board.specs.declared.position.Position.{Position}
 use Rattle.arimaa_forced.specs.declared.entry.Entry.{Entry}
-use Rattle.arimaa_strategy.specs.declared.key.Key.{Key}
-use Rattle.arimaa_strategy.specs.contracts.key.KeyPartialEq.TheImpl as key_equality
-use Rattle.arimaa_strategy.specs.Keys.{key_of, position_at}
+use Rattle.arimaa_history.specs.declared.key.Key.{Key}
+use Rattle.arimaa_history.specs.Counts.{same_key}
+use Rattle.arimaa_history.specs.Keys.{key_of, position_at}
 use Rattle.arimaa_strategy.specs.Entries.{place_of, HaveSteps}
-
--- whether two keys are the same
-abbrev pub same_key : Key → Key → Bool
-same_key = (key_equality.ghosts).eq
 
 -- the map has at its key the first entry of a position, for each position that its key gives back
 abbrev pub ArePlaces : {S : Type 0} → List Entry → HashMap Key ℕ S → Type 0

@@ -24,7 +24,8 @@ pub record IsBoardAndTurn (rest : List ℕ) (b : Board) (ns : List NotedStep) : 
   pub apart : is_blank (slice_index turn 0) ≡ true
   pub played : IsTurnText turn ns
 
--- a line of an entry, without its end: the rank from 0 to 99, the board, and the turn, the attacker being to move
+-- a line of an entry, without its end: the rank from 0 to 99, the board, and the turn, the attacker
+-- being to move
 pub record IsEntryText (bytes : List ℕ) (a : Color) (e : Entry) : Type 0 where
   pub rest : List ℕ
   pub rank : IsFirstItem bytes (decimal e.rank) rest

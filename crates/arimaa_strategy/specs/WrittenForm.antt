@@ -8,7 +8,8 @@ use Rattle.arimaa_board.specs.Text.{text_of}
 use Rattle.arimaa_notation.specs.Written.{text_of_turn}
 use Rattle.arimaa_forced.specs.declared.entry.Entry.{Entry}
 
--- the written form of an entry, without the end of its line: the rank, the board and the turn, with one space between
+-- the written form of an entry, without the end of its line: the rank, the board and the turn, with
+-- one space between
 abbrev pub text_of_entry : Entry → List ℕ
 text_of_entry e = decimal e.rank ++ 32 ∷ text_of e.position.board ++ 32 ∷ text_of_turn e.turn
 

@@ -17,8 +17,8 @@ pub enum Why {
     Reply,
     /// Its rank is not one more than that of the position that the turn leads to.
     Rank,
-    /// The root is decided for the defender, or is undecided and has no entry, or has a reply as under
-    /// `Reply`.
+    /// The root is decided for the defender, or is undecided and has no entry, or has a reply as
+    /// under `Reply`.
     Root,
     /// The rank of the root is above the number of turns that is asked about.
     Deep,
@@ -29,9 +29,10 @@ pub enum Why {
 pub enum Checked {
     /// Every entry and the root are good, and this is the rank of the root.
     Accepted { rank: u8 },
-    /// This entry, counted from 1, is the first faulty one, or the root, as entry 0, where every entry is
-    /// good; and this is its first fault.
+    /// This entry, counted from 1, is the first faulty one, or the root, as entry 0, where every
+    /// entry is good; and this is its first fault.
     Refused { entry: u64, why: Why },
-    /// The replies to this position are more than the region has room for, and everything before it is good.
+    /// The replies to this position are more than the region has room for, and everything before it
+    /// is good.
     Crowded { position: Position },
 }

@@ -119,8 +119,8 @@ fn look_at(
     }
 }
 
-// Where an entry leads: its turn is one of its position, with the right marks, and does not lead to a barred
-// position.
+// Where an entry leads: its turn is one of its position, with the right marks, and does not lead to
+// a barred position.
 fn led_to(barred: &Barred, entry: &Entry) -> Option<Position>
     ensures { result ≡ led_to barred.now entry.now }
 {
@@ -283,7 +283,8 @@ fn answer(
     region: &mut Region,
 ) -> Checked
     requires closed { region.old.segments ≡ [] }
-    ensures answer { result ≡ checked_of region.old.room attacker barred.now n strategy.now root.now }
+    ensures answer { result
+        ≡ checked_of region.old.room attacker barred.now n strategy.now root.now }
     ensures region { region.new ≡ record region.old { work = region.new.work } }
     ensures layers_room { region.new.work.room ≡ region.old.work.room }
 {
@@ -294,10 +295,12 @@ fn answer(
     root_answer(n, *root, look)
 }
 
-/// Whether a strategy wins for the attacker within `n` turns from the present position of a history.
+/// Whether a strategy wins for the attacker within `n` turns from the present position of a
+/// history.
 ///
-/// Positions that stand at least twice in the history may not be entered. The lists of replies are made in the
-/// region, one at a time, and the region is as before when the answer comes. No memory is taken.
+/// Positions that stand at least twice in the history may not be entered. The lists of replies are
+/// made in the region, one at a time, and the region is as before when the answer comes. No memory
+/// is taken.
 pub fn check(
     history: &History,
     attacker: Color,

@@ -6,7 +6,6 @@ mod checker;
 mod entry_line;
 mod fault;
 mod finding;
-mod key;
 mod reader;
 mod strategy;
 #[cfg(test)]

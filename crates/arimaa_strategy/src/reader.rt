@@ -4,21 +4,21 @@ ghost use Rattle.arimaa_record.specs.Lines.{lines_of};
 ghost use Rattle.arimaa_forced.specs.declared.entry.Entry.{Entry as EntryValue};
 ghost use Rattle.arimaa_strategy.specs.Text.{IsStrategyText, IsFirstBadLine, IsStrategyReading};
 
-use crate::entry_line::{is_blank_line, read_entry};
+use crate::entry_line::read_entry;
 use crate::fault::StrategyFault;
 use crate::strategy::Strategy;
 use arimaa_board::Color;
-use arimaa_record::first_line;
+use arimaa_record::{first_line, is_blank_line};
 use std::alloc::Global;
 
 /// The strategy of a text, with the attacker to move in each entry.
 ///
-/// A line of an entry is its rank, from 0 to 99, blanks, a board's text, blanks, and a turn with its removal
-/// marks. Lines of blanks alone, and comments, which begin with `#`, are passed over. A line may end with a
-/// carriage return before its line feed.
+/// A line of an entry is its rank, from 0 to 99, blanks, a board's text, blanks, and a turn with
+/// its removal marks. Lines of blanks alone, and comments, which begin with `#`, are passed over. A
+/// line may end with a carriage return before its line feed.
 ///
-/// `Text` names the first other line, counted from 1 over all lines. `Memory` is answered where no memory
-/// was left before it, or before the end.
+/// `Text` names the first other line, counted from 1 over all lines. `Memory` is answered where no
+/// memory was left before it, or before the end.
 pub fn read_strategy(
     alloc: Global,
     bytes: &[u8],

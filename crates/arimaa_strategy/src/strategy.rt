@@ -3,21 +3,21 @@ ghost use Rattle.std.specs.Prelude.{◌≡◌, ◌<◌, None, Some, [], ◌∷�
 ghost use Rattle.std.specs.HashMap.{get};
 ghost use Rattle.std.specs.Option.{option_map, option_or};
 ghost use Rattle.arimaa_model.specs.Strategies.{find_entry};
-ghost use Rattle.arimaa_strategy.specs.declared.key.Key.{Key as KeyValue};
+ghost use Rattle.arimaa_history.specs.declared.key.Key.{Key as KeyValue};
 ghost use Rattle.arimaa_strategy.specs.Entries.{HaveSteps, plan_of, place_of};
-ghost use Rattle.arimaa_strategy.specs.Places.{same_key};
+ghost use Rattle.arimaa_history.specs.Counts.{same_key};
 
-use crate::key::Key;
 use arimaa_board::Position;
 use arimaa_forced::Entry;
+use arimaa_history::Key;
 use std::alloc::{AllocError, Global};
 use std::collections::HashMap;
 use std::marker::Model;
 
 /// The entries of a strategy in order, each with a turn of at least one step.
 ///
-/// A contract sees it as the list of them. An index finds the first entry of a position, in a time that does not
-/// grow with the number of entries.
+/// A contract sees it as the list of them. An index finds the first entry of a position, in a time
+/// that does not grow with the number of entries.
 #[derive(Drop)]
 pub struct Strategy {
     entries: Vec<Entry>,
@@ -62,7 +62,8 @@ impl Strategy {
         }
     }
 
-    /// Adds an entry at the end. It fails for want of memory only, and then the strategy is as before.
+    /// Adds an entry at the end. It fails for want of memory only, and then the strategy is as
+    /// before.
     pub fn push(&mut self, entry: Entry) -> Result<(), AllocError>
         requires { 0 < length entry.turn }
         ensures pushed { OnOk result (self.new ≡ self.old ++ entry ∷ []) }

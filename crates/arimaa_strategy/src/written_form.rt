@@ -31,14 +31,15 @@ fn push_entry(text: &mut Vec<u8>, entry: &Entry) -> Result<(), AllocError>
     Ok(())
 }
 
-/// The written form of a strategy: a line an entry, with its rank, a space, the board's text, a space, and the
-/// turn with its removal marks.
+/// The written form of a strategy: a line an entry, with its rank, a space, the board's text, a
+/// space, and the turn with its removal marks.
 ///
-/// It is read back as the same strategy for an attacker that each entry is `IsWritable` for: it has a rank of at
-/// most 99, a fit board, and the attacker to move. It fails for want of memory only.
+/// It is read back as the same strategy for an attacker that each entry is `IsWritable` for: it has
+/// a rank of at most 99, a fit board, and the attacker to move. It fails for want of memory only.
 pub fn strategy_text(alloc: Global, strategy: &Strategy) -> Result<Vec<u8>, AllocError>
     ensures text { IfOk result (λ text. text.items ≡ text_of_strategy strategy.now) }
-    ensures reads_back { IfOk result (λ text. (a : Color) → AllByRecursion (IsWritable a) strategy.now
+    ensures reads_back { IfOk result
+        (λ text. (a : Color) → AllByRecursion (IsWritable a) strategy.now
         → IsStrategyText text.items a strategy.now) }
 {
     let mut text = Vec::new(alloc);

@@ -2,9 +2,10 @@ use Rattle.std.proofs.Common.{◌≡◌, ◌∙◌, ◌∷◌, ◌++◌, [], Lis
 use Rattle.std.specs.HashMap.{get}
 use Rattle.std.specs.Option.{option_or}
 use Rattle.arimaa_forced.specs.declared.entry.Entry.{Entry}
-use Rattle.arimaa_strategy.specs.declared.key.Key.{Key}
-use Rattle.arimaa_strategy.specs.Keys.{key_of, position_at}
-use Rattle.arimaa_strategy.specs.Places.{same_key, AreKept}
+use Rattle.arimaa_history.specs.declared.key.Key.{Key}
+use Rattle.arimaa_history.specs.Keys.{key_of, position_at}
+use Rattle.arimaa_history.specs.Counts.{same_key}
+use Rattle.arimaa_strategy.specs.Places.{AreKept}
 use Rattle.arimaa_strategy.proofs.PlaceLaws.{kept_more}
 use Rattle.arimaa_strategy.proofs.strategy.Strategy.push.Goals as goal
 
