@@ -2,10 +2,12 @@
 # Measures the prover on some questions: questions opened a second on one worker, with every question
 # counted, then the seconds with 1, 2 and 4 workers. Where a yardstick in plain Rust lies in
 # ../shared/yardstick beside the repository, its speed on the same questions is measured in the same run.
-# Lines `ratio NAME VALUE` give the project's questions a second over the yardstick's on one worker, and
-# `ratio efficiency_N_NAME VALUE` the seconds of one worker over N times those of N workers. Each figure is
-# the least of interleaved runs, of processor time on one worker and of real time on more. Run it on a
-# machine that does nothing else. ROUNDS sets the number of runs. It needs `rt` on the path.
+# Lines `ratio NAME VALUE` give the project's questions a second over the yardstick's on one worker,
+# `ratio efficiency_N_NAME VALUE` the seconds of one worker over N times those of N workers, and
+# `ratio work_N_NAME VALUE` the processor time of one worker over that of N workers together: below 1 where
+# they do work twice or hinder each other. Each figure is the least of interleaved runs. Run it on a machine
+# that does nothing else: with N workers, N processors have to be free. ROUNDS sets the number of runs. It
+# needs `rt` on the path.
 set -euo pipefail
 top=$(cd "$(dirname "${BASH_SOURCE[0]}")/.." && pwd)
 yardstick=$top/../shared/yardstick/yardstick.sh
@@ -38,6 +40,7 @@ question() {
   done | awk -v name="$name" '
     { time = ($1 ~ /^workers/) ? $3 : $2 }
     !($1 in least) || time < least[$1] { least[$1] = time }
+    !($1 in work) || $2 < work[$1] { work[$1] = $2 }
     $1 == "one" { opened = $4 }
     $1 == "yardstick" { theirs = $4 }
     function max(a, b) { return a > b ? a : b }
@@ -52,13 +55,15 @@ question() {
       }
       printf "ratio efficiency_2_%s %.3f\n", name, least["workers1"] / max(2 * least["workers2"], 0.001)
       printf "ratio efficiency_4_%s %.3f\n", name, least["workers1"] / max(4 * least["workers4"], 0.001)
+      printf "ratio work_4_%s %.3f\n", name, work["workers1"] / max(work["workers4"], 0.001)
     }'
 }
 
-# some small boards, positions of random play, and a long question
+# some small boards, positions of random play, and a long question, which takes some seconds at depth 4
 question rabbits gold gold 3 '[                       r                                R       ]'
 question middle_1 gold gold 1 '[ r r        ddr h   Er m c   e HRR RRrh     DR r R D  R       R ]'
 question middle_3 gold gold 1 '[r m  r rh          dr   RRe  Crr     hR H   E R  R  D H   RD  RR]'
 question middle_4 silver silver 1 '[      r rcrd r   hrc   CH e  DrhR m   RRM   R R   RRH       D E ]'
 question middle_5 silver gold 2 '[           d   r    R    r R dr  Hr   rR    D  R       RD   R   ]'
 question long gold gold 3 '[ r r                   E        r           R                   ]'
+question longer gold gold 4 '[ r r                   E        r           R                   ]'

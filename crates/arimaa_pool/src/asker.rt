@@ -28,7 +28,12 @@ impl<'a> Model for Asker<'a> {
 
     ghost Value = { Terms };
 
-    ghost view = { λ a. record { attacker = (setting_of a.table.now).attacker; barred = (setting_of a.table.now).barred; budget = a.worker.budget; room = a.worker.room } };
+    ghost view = { λ a. record {
+      attacker = (setting_of a.table.now).attacker;
+      barred = (setting_of a.table.now).barred;
+      budget = a.worker.budget;
+      room = a.worker.room;
+    } };
 
     ghost invariant = { λ a. IsPassOf a.table.now a.pass };
 }
@@ -67,7 +72,8 @@ impl<'a> Asker<'a> {
     pub(crate) fn ask(&mut self, p: &Position, depth: u8) -> Result<bool, Stop>
         requires { depth ≤ 20 }
         ensures same { self.new ≡ self.old }
-        ensures verdict { IfOk result (λ v. v ≡ wins self.old.attacker self.old.barred depth p.now) }
+        ensures verdict { IfOk result (λ v. v
+            ≡ wins self.old.attacker self.old.barred depth p.now) }
         ensures stop { IfErr result (IsStop self.old (λ q j. (q ≡ p.now) × (j ≡ depth))) }
     {
         match self.worker.ask(self.table, &mut self.pass, p, depth) {

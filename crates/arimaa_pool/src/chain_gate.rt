@@ -9,13 +9,14 @@ use std::sync::atomic::{AtomicBool, AtomicU32, Ordering};
 // How many jobs a gate can count.
 const MOST_JOBS: usize = 16;
 
-/// A gate that counts how often each job up to a last one was entered and left, and makes them wait.
+/// A gate that counts how often each job up to a last one was entered and left, and makes them
+/// wait.
 ///
-/// An entering is counted before it waits. The r-th entering of a job up to the last one waits until
-/// every job below was left r times, and, if it isn't the last one, until the job above was entered r
-/// times. An entering of a job above the last one waits until every job up to it was left as often as it
-/// was entered. Each wait ends after 10,000,000 turns. So two workers ask the jobs in turn, one the even
-/// ones and the other the odd ones.
+/// An entering is counted before it waits. The r-th entering of a job up to the last one waits
+/// until every job below was left r times, and, if it isn't the last one, until the job above was
+/// entered r times. An entering of a job above the last one waits until every job up to it was left
+/// as often as it was entered. Each wait ends after 10,000,000 turns. So two workers ask the jobs
+/// in turn, one the even ones and the other the odd ones.
 #[derive(Drop)]
 pub struct ChainGate {
     last: u32,

@@ -37,11 +37,21 @@ impl<'a> Model for Crew<'a> {
     ghost Value = { Hands };
 
     ghost view = { λ c. record {
-      terms = record { attacker = (setting_of c.table.now).attacker; barred = (setting_of c.table.now).barred; budget = c.budget; room = c.room };
+      terms = record {
+        attacker = (setting_of c.table.now).attacker;
+        barred = (setting_of c.table.now).barred;
+        budget = c.budget;
+        room = c.room;
+      };
       count = vec_len c.askers;
     } };
 
-    ghost invariant = { λ c. AskOn (record { attacker = (setting_of c.table.now).attacker; barred = (setting_of c.table.now).barred; budget = c.budget; room = c.room }) c.askers.items };
+    ghost invariant = { λ c. AskOn (record {
+      attacker = (setting_of c.table.now).attacker;
+      barred = (setting_of c.table.now).barred;
+      budget = c.budget;
+      room = c.room;
+    }) c.askers.items };
 }
 
 impl<'a> Crew<'a> {
@@ -56,7 +66,12 @@ impl<'a> Crew<'a> {
     ) -> Result<Crew<'a>, AllocError>
         requires pass { IsPassOf table.now pass }
         requires settings { AreWithinLimits settings.now }
-        ensures terms { IfOk result (λ c. c.terms ≡ record { attacker = (setting_of table.now).attacker; barred = (setting_of table.now).barred; budget = settings.now.budget; room = settings.now.room }) }
+        ensures terms { IfOk result (λ c. c.terms ≡ record {
+          attacker = (setting_of table.now).attacker;
+          barred = (setting_of table.now).barred;
+          budget = settings.now.budget;
+          room = settings.now.room;
+        }) }
         ensures count { IfOk result (λ c. c.count ≡ settings.now.workers) }
     {
         let mut pass = pass;
@@ -113,8 +128,10 @@ impl<'a> Crew<'a> {
         requires some { 1 ≤ self.old.count }
         ensures terms { self.new.terms ≡ self.old.terms }
         ensures count { OnOk result (self.new.count ≡ self.old.count) }
-        ensures verdict { IfOk result (λ v. v ≡ wins self.old.terms.attacker self.old.terms.barred depth p.now) }
-        ensures failure { IfErr result (IsFailure self.old.terms (λ q j. (q ≡ p.now) × (j ≡ depth))) }
+        ensures verdict { IfOk result (λ v. v
+            ≡ wins self.old.terms.attacker self.old.terms.barred depth p.now) }
+        ensures failure { IfErr result (IsFailure self.old.terms (λ q j. (q ≡ p.now)
+            × (j ≡ depth))) }
     {
         let mut asker = self.take().unwrap().into_inner();
         let answer = asker.ask(p, depth);
@@ -132,7 +149,12 @@ fn asker<'a>(
 ) -> Result<CachePadded<Asker<'a>>, AllocError>
     requires pass { IsPassOf table.now pass }
     requires settings { AreWithinLimits settings.now }
-    ensures { IfOk result (λ a. padded_value a ≡ record { attacker = (setting_of table.now).attacker; barred = (setting_of table.now).barred; budget = settings.now.budget; room = settings.now.room }) }
+    ensures { IfOk result (λ a. padded_value a ≡ record {
+      attacker = (setting_of table.now).attacker;
+      barred = (setting_of table.now).barred;
+      budget = settings.now.budget;
+      room = settings.now.room;
+    }) }
 {
     let worker = Worker::new(alloc, settings.room, settings.budget)?;
     Ok(CachePadded::new(Asker::new(table, pass, worker)))

@@ -25,8 +25,9 @@ use std::thread::Threads;
 
 // The verdict of a depth, where `least` is the least decisive job found, or the number of jobs.
 //
-// A job that stopped gives its stop where no job was found, or where the side to move is the one that
-// is to win (`own`) and the job comes before the one that was found: it may be the first that is won.
+// A job that stopped gives its stop where no job was found, or where the side to move is the one
+// that is to win (`own`) and the job comes before the one that was found: it may be the first that
+// is won.
 fn answer_of(least: u32, count: u32, own: bool, stopped: Option<StoppedJob>) -> Result<bool, Stop>
     ensures { result ≡ depth_answer least count own stopped }
 {
@@ -60,8 +61,10 @@ fn ask_jobs<R: AllocGlobal + Threads + Sync, G: Gate>(
     requires list { list.now.segments ≡ next crew.old.terms.barred p.now ∷ [] }
     ensures terms { crew.new.terms ≡ crew.old.terms }
     ensures count { OnOk result (crew.new.count ≡ crew.old.count) }
-    ensures verdict { IfOk result (λ v. v ≡ wins crew.old.terms.attacker crew.old.terms.barred (suc depth) p.now) }
-    ensures failure { IfErr result (IsFailure crew.old.terms (λ q j. (j ≡ depth) × Stands (looked_at crew.old.terms.attacker crew.old.terms.barred depth p.now) q)) }
+    ensures verdict { IfOk result (λ v. v
+        ≡ wins crew.old.terms.attacker crew.old.terms.barred (suc depth) p.now) }
+    ensures failure { IfErr result (IsFailure crew.old.terms (λ q j. (j ≡ depth)
+        × Stands (looked_at crew.old.terms.attacker crew.old.terms.barred depth p.now) q)) }
 {
     let count = list.live();
     let (jobs, mut whole) = Jobs::new(rt.alloc(), count)?;
@@ -97,7 +100,9 @@ pub(crate) fn deepen<R: AllocGlobal + Threads + Sync, G: Gate>(
     ensures empty { list.new.segments ≡ [] }
     ensures room { list.new.room ≡ list.old.room }
     ensures found { IfOk result (IsFound crew.old.terms p.now n) }
-    ensures failure { IfErr result (IsFailure crew.old.terms (IsAsked crew.old.terms.attacker crew.old.terms.barred p.now (rank_within crew.old.terms.attacker crew.old.terms.barred n p.now))) }
+    ensures failure { IfErr result (IsFailure crew.old.terms
+        (IsAsked crew.old.terms.attacker crew.old.terms.barred p.now
+        (rank_within crew.old.terms.attacker crew.old.terms.barred n p.now))) }
 {
     if crew.ask(p, 0)? {
         return Ok(Some(0));
@@ -140,7 +145,9 @@ fn deepen_over<R: AllocGlobal + Threads + Sync, G: Gate>(
     ensures terms { crew.new.terms ≡ crew.old.terms }
     ensures count { OnOk result (crew.new.count ≡ crew.old.count) }
     ensures found { IfOk result (IsFound crew.old.terms p.now n) }
-    ensures failure { IfErr result (IsFailure crew.old.terms (IsAsked crew.old.terms.attacker crew.old.terms.barred p.now (rank_within crew.old.terms.attacker crew.old.terms.barred n p.now))) }
+    ensures failure { IfErr result (IsFailure crew.old.terms
+        (IsAsked crew.old.terms.attacker crew.old.terms.barred p.now
+        (rank_within crew.old.terms.attacker crew.old.terms.barred n p.now))) }
 {
     for depth in 0..n {
         if ask_jobs(rt, crew, list, gate, p, depth)? {

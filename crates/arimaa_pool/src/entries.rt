@@ -25,7 +25,8 @@ fn rank_of(asker: &mut Asker, q: &Position, n: u8) -> Result<u8, Stop>
     ensures same { asker.new ≡ asker.old }
     ensures rank { IfOk result (λ r. r ≡ rank_within asker.old.attacker asker.old.barred n q.now) }
     ensures within { IfOk result (λ r. r ≤ n) }
-    ensures stop { IfErr result (IsStop asker.old (IsAsked asker.old.attacker asker.old.barred q.now (rank_within asker.old.attacker asker.old.barred n q.now))) }
+    ensures stop { IfErr result (IsStop asker.old (IsAsked asker.old.attacker asker.old.barred q.now
+        (rank_within asker.old.attacker asker.old.barred n q.now))) }
 {
     for depth in 0..n {
         if asker.ask(q, depth)? {
@@ -47,8 +48,10 @@ fn first_won(
     requires own { IsTrue (same_color q.now.side asker.old.attacker) }
     requires list { list.now.segments ≡ next asker.old.barred q.now ∷ [] }
     ensures same { asker.new ≡ asker.old }
-    ensures first { IfOk result (λ o. o ≡ first_decisive asker.old.attacker asker.old.barred depth q.now) }
-    ensures stop { IfErr result (IsStop asker.old (λ x j. (j ≡ depth) × Stands (looked_at asker.old.attacker asker.old.barred depth q.now) x)) }
+    ensures first { IfOk result (λ o. o
+        ≡ first_decisive asker.old.attacker asker.old.barred depth q.now) }
+    ensures stop { IfErr result (IsStop asker.old (λ x j. (j ≡ depth)
+        × Stands (looked_at asker.old.attacker asker.old.barred depth q.now) x)) }
 {
     for place in 0..list.live() {
         let reply = list.get(place);
@@ -75,8 +78,10 @@ fn result_of(
     ensures same { asker.new ≡ asker.old }
     ensures empty { list.new.segments ≡ [] }
     ensures room { list.new.room ≡ list.old.room }
-    ensures result { IfOk result (λ r. result_at (entry_of asker.old.attacker asker.old.barred n q.now) ≡ Some r) }
-    ensures stop { IfErr result (IsStop asker.old (IsAsked asker.old.attacker asker.old.barred q.now rank)) }
+    ensures result { IfOk result (λ r. result_at
+        (entry_of asker.old.attacker asker.old.barred n q.now) ≡ Some r) }
+    ensures stop { IfErr result (IsStop asker.old
+        (IsAsked asker.old.attacker asker.old.barred q.now rank)) }
 {
     match results(q, asker.barred(), list) {
         Err(_) => Err(Stop {
@@ -92,8 +97,8 @@ fn result_of(
     }
 }
 
-/// The entry of an undecided position with the attacker to move, which it wins within n turns, and the
-/// position that it brings about.
+/// The entry of an undecided position with the attacker to move, which it wins within n turns, and
+/// the position that it brings about.
 pub(crate) fn entry_of(
     asker: &mut Asker,
     list: &mut Region,
@@ -108,8 +113,10 @@ pub(crate) fn entry_of(
     ensures empty { list.new.segments ≡ [] }
     ensures room { list.new.room ≡ list.old.room }
     ensures entry { IfOk result (λ r. r.0 ≡ written_entry asker.old n q.now) }
-    ensures result { IfOk result (λ r. result_at (entry_of asker.old.attacker asker.old.barred n q.now) ≡ Some r.1) }
-    ensures stop { IfErr result (IsStop asker.old (IsAsked asker.old.attacker asker.old.barred q.now (rank_within asker.old.attacker asker.old.barred n q.now))) }
+    ensures result { IfOk result (λ r. result_at
+        (entry_of asker.old.attacker asker.old.barred n q.now) ≡ Some r.1) }
+    ensures stop { IfErr result (IsStop asker.old (IsAsked asker.old.attacker asker.old.barred q.now
+        (rank_within asker.old.attacker asker.old.barred n q.now))) }
 {
     let rank = rank_of(asker, q, n)?;
     let reached = result_of(asker, list, q, rank, n)?;

@@ -35,7 +35,8 @@ fn meet_replies(
     requires won { IsTrue (wins asker.now.attacker asker.now.barred rank r.now) }
     ensures empty { list.new.segments ≡ [] }
     ensures room { list.new.room ≡ list.old.room }
-    ensures met { OnOk result (queue.new ≡ first_occurrences queue.old (open_replies asker.now.barred r.now)) }
+    ensures met { OnOk result (queue.new
+        ≡ first_occurrences queue.old (open_replies asker.now.barred r.now)) }
     ensures failure { IfErr result (IsFailure asker.now (λ q j. (q ≡ r.now) × (j ≡ rank))) }
 {
     if decided(r).is_some() {
@@ -68,7 +69,8 @@ fn meet_first(
     requires won { IsTrue (wins asker.now.attacker asker.now.barred rank p.now) }
     ensures empty { list.new.segments ≡ [] }
     ensures room { list.new.room ≡ list.old.room }
-    ensures met { OnOk result (queue.new ≡ first_occurrences queue.old (first_met asker.now.attacker asker.now.barred p.now)) }
+    ensures met { OnOk result (queue.new
+        ≡ first_occurrences queue.old (first_met asker.now.attacker asker.now.barred p.now)) }
     ensures failure { IfErr result (IsFailure asker.now (λ q j. (q ≡ p.now) × (j ≡ rank))) }
 {
     if p.side == asker.attacker() {
@@ -94,9 +96,13 @@ fn play(
     ensures same { asker.new ≡ asker.old }
     ensures empty { list.new.segments ≡ [] }
     ensures room { list.new.room ≡ list.old.room }
-    ensures entry { OnOk result (strategy.new ≡ strategy.old ++ written_entry asker.old n q.now ∷ []) }
-    ensures met { OnOk result (queue.new ≡ first_occurrences queue.old (after_entry asker.old.attacker asker.old.barred n q.now)) }
-    ensures failure { IfErr result (IsFailure asker.old (IsAsked asker.old.attacker asker.old.barred q.now (rank_within asker.old.attacker asker.old.barred n q.now))) }
+    ensures entry { OnOk result (strategy.new
+        ≡ strategy.old ++ written_entry asker.old n q.now ∷ []) }
+    ensures met { OnOk result (queue.new
+        ≡ first_occurrences queue.old (after_entry asker.old.attacker asker.old.barred n q.now)) }
+    ensures failure { IfErr result (IsFailure asker.old
+        (IsAsked asker.old.attacker asker.old.barred q.now
+        (rank_within asker.old.attacker asker.old.barred n q.now))) }
 {
     let (entry, reached) = entry_of(asker, list, q, n)?;
     let rank = entry.rank;
@@ -117,8 +123,10 @@ pub(crate) fn extract(
     requires empty { list.old.segments ≡ [] }
     requires room { list.old.room ≡ asker.old.room }
     ensures same { asker.new ≡ asker.old }
-    ensures strategy { IfOk result (λ s. s ≡ map entry_with_marks (strategy_of asker.old.attacker asker.old.barred rank p.now)) }
-    ensures failure { IfErr result (IsFailure asker.old (InNeed asker.old.attacker asker.old.barred p.now rank)) }
+    ensures strategy { IfOk result (λ s. s
+        ≡ map entry_with_marks (strategy_of asker.old.attacker asker.old.barred rank p.now)) }
+    ensures failure { IfErr result (IsFailure asker.old
+        (InNeed asker.old.attacker asker.old.barred p.now rank)) }
 {
     let mut queue = Barred::new(alloc);
     meet_first(asker, list, &mut queue, p, rank)?;

@@ -1,7 +1,7 @@
 //! What is called round each job.
 
-/// Is told of each job: the position of this number in the list of the root's next positions is asked
-/// about at some depth.
+/// Is told of each job: the position of this number in the list of the root's next positions is
+/// asked about at some depth.
 ///
 /// A gate may wait, and so bring about an order of the workers' steps. It changes no answer.
 pub trait Gate: Sync {

@@ -3,8 +3,9 @@ use crate::gate::Gate;
 use crate::waiting::wait_until;
 use std::sync::atomic::{AtomicBool, Ordering};
 
-/// A gate that lets the first two jobs begin together: whoever enters job 0 or job 1 raises a flag and
-/// waits for the other's flag, for at most 10,000,000 turns. So it is starved where one thread asks all jobs.
+/// A gate that lets the first two jobs begin together: whoever enters job 0 or job 1 raises a flag
+/// and waits for the other's flag, for at most 10,000,000 turns. So it is starved where one thread
+/// asks all jobs.
 #[derive(Drop)]
 pub struct MeetGate {
     first: AtomicBool,

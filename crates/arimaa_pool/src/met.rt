@@ -13,7 +13,8 @@ use std::alloc::AllocError;
 
 // Adds an undecided position at the end, unless it stands there.
 pub(crate) fn meet(queue: &mut Barred, q: &Position) -> Result<(), AllocError>
-    ensures { OnOk result (queue.new ≡ first_occurrences queue.old (filter (λ x. is_none (decided x)) (q.now ∷ []))) }
+    ensures { OnOk result (queue.new
+        ≡ first_occurrences queue.old (filter (λ x. is_none (decided x)) (q.now ∷ []))) }
 {
     if decided(q).is_some() || queue.contains(q) {
         return Ok(());
@@ -24,7 +25,9 @@ pub(crate) fn meet(queue: &mut Barred, q: &Position) -> Result<(), AllocError>
 
 // Adds the undecided positions of a list that has one segment.
 pub(crate) fn meet_all(queue: &mut Barred, list: &Region) -> Result<(), AllocError>
-    ensures { OnOk result (queue.new ≡ first_occurrences queue.old (filter (λ x. is_none (decided x)) (live_of list.now.segments))) }
+    ensures { OnOk result (queue.new
+        ≡ first_occurrences queue.old (filter (λ x. is_none (decided x))
+        (live_of list.now.segments))) }
 {
     for place in 0..list.live() {
         meet(queue, &list.get(place))?;

@@ -28,7 +28,8 @@ use std::thread::Threads;
 
 // The verdict where a needed question stopped, or no verdict for want of memory.
 fn verdict_on(failure: &Failure) -> Result<Verdict, AllocError>
-    ensures { (t : Terms) (p : Position) (n : ℕ) → IsFailure t (InNeed t.attacker t.barred p n) failure.now → IfOk result (IsAnswer t p n) }
+    ensures { (t : Terms) (p : Position) (n : ℕ)
+        → IsFailure t (InNeed t.attacker t.barred p n) failure.now → IfOk result (IsAnswer t p n) }
 {
     match failure {
         Failure::Memory => Err(AllocError),
@@ -38,7 +39,8 @@ fn verdict_on(failure: &Failure) -> Result<Verdict, AllocError>
 
 // The verdict where a needed question stopped.
 fn verdict_of(stop: &Stop) -> Verdict
-    ensures { (t : Terms) (p : Position) (n : ℕ) → IsStop t (InNeed t.attacker t.barred p n) stop.now → IsAnswer t p n result }
+    ensures { (t : Terms) (p : Position) (n : ℕ)
+        → IsStop t (InNeed t.attacker t.barred p n) stop.now → IsAnswer t p n result }
 {
     match stop.reason {
         Reason::Spent { counted } => Verdict::Spent {
@@ -105,10 +107,11 @@ fn win(
 /// enter a position that stands twice in the history.
 ///
 /// It asks the root at depth 0, 1 and so on up to `n`, until the first yes, and finds the strategy.
-/// The root's next positions are the jobs of a depth, which as many workers claim as the settings say:
-/// the gate is told before and after each. They share one table, and take all their memory before the
-/// first question. `Spent` and `Crowded` name a question that is needed, whose cost is above the budget
-/// or whose crowd is above the room. `AllocError` comes only where there is too little memory.
+/// The root's next positions are the jobs of a depth, which as many workers claim as the settings
+/// say: the gate is told before and after each. They share one table, and take all their memory
+/// before the first question. `Spent` and `Crowded` name a question that is needed, whose cost is
+/// above the budget or whose crowd is above the room. `AllocError` comes only where there is too
+/// little memory.
 ///
 /// The number of workers, their order and the gate change no rank, no strategy and no `No`.
 pub fn prove<R: AllocGlobal + Threads + Sync, G: Gate>(
@@ -122,9 +125,11 @@ pub fn prove<R: AllocGlobal + Threads + Sync, G: Gate>(
     requires history { 1 ≤ length history.now }
     requires depth { n ≤ 20 }
     requires settings { AreWithinLimits settings.now }
-    ensures answer { (p : Position) → present history.now ≡ Some p → IfOk result (IsAnswer (terms_of attacker history.now settings.now) p n) }
+    ensures answer { (p : Position) → present history.now ≡ Some p
+        → IfOk result (IsAnswer (terms_of attacker history.now settings.now) p n) }
     ensures plays { IfOk result (Plays attacker history.now) }
-    ensures complete { (p : Position) → present history.now ≡ Some p → Suffices (terms_of attacker history.now settings.now) p n → IfOk result IsDone }
+    ensures complete { (p : Position) → present history.now ≡ Some p
+        → Suffices (terms_of attacker history.now settings.now) p n → IfOk result IsDone }
 {
     let p = history.last().unwrap();
     let (table, pass) = Table::new(rt.alloc(), settings.lines, attacker, history.barred())?;

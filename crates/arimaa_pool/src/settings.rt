@@ -9,7 +9,7 @@ pub struct Settings {
     pub lines: u32,
     /// How many questions may be opened to answer one, 1 to 2^40.
     pub budget: u64,
-    /// How many positions each worker may hold at once, 1 to 1,048,576. The prover's own list has the
-    /// same room. Workers times room is at most 4,194,304.
+    /// How many positions each worker may hold at once, 1 to 1,048,576. The prover's own list has
+    /// the same room. Workers times room is at most 4,194,304.
     pub room: u32,
 }

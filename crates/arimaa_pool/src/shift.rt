@@ -32,8 +32,8 @@ pub(crate) struct Shift<'d, G> {
 }
 
 impl<'d, G: Gate> Shift<'d, G> {
-    /// Lets all workers claim jobs until none is left, and answers the least of the jobs that stopped.
-    /// The seat learns what all of them know.
+    /// Lets all workers claim jobs until none is left, and answers the least of the jobs that
+    /// stopped. The seat learns what all of them know.
     pub(crate) fn run<R: Threads + Sync>(
         &self,
         rt: &R,
@@ -41,7 +41,8 @@ impl<'d, G: Gate> Shift<'d, G> {
         whole: &mut JobSeat,
         crew: &mut Crew,
     ) -> Result<Option<StoppedJob>, AllocError>
-        requires jobs { AreJobsOf self.now.jobs.now self.now.list.now.segments crew.old.terms self.now.depth self.now.root.now }
+        requires jobs { AreJobsOf self.now.jobs.now self.now.list.now.segments crew.old.terms
+            self.now.depth self.now.root.now }
         requires some { 1 ≤ crew.old.count }
         requires few { crew.old.count ≤ 16 }
         requires seat { IsSeatOf self.now.jobs.now whole.old }
@@ -51,7 +52,8 @@ impl<'d, G: Gate> Shift<'d, G> {
         ensures seat { IsSeatOf self.now.jobs.now whole.new }
         ensures weight { OnOk result ((view whole.new).weight ≡ 65536) }
         ensures ended { OnOk result (has_ended (view whole.new) ≡ true) }
-        ensures worked { IfOk result (Worked crew.old.terms self.now.depth self.now.root.now (view whole.new)) }
+        ensures worked { IfOk result (Worked crew.old.terms self.now.depth self.now.root.now
+            (view whole.new)) }
     {
         let seated = self.seat_all(alloc, whole, crew)?;
         let done = self.work_all(rt, seated)?;
@@ -64,16 +66,27 @@ impl<'d, G: Gate> Shift<'d, G> {
         rt: &R,
         seated: Vec<Seated<'a>>,
     ) -> Result<Vec<Seated<'a>>, AllocError>
-        requires { All (λ s. AreJobsOf self.now.jobs.now self.now.list.now.segments (padded_value s.asker) self.now.depth self.now.root.now × IsFresh self.now.jobs.now (padded_value s.asker) self.now.depth self.now.root.now s) seated.items }
+        requires { All (λ s. AreJobsOf self.now.jobs.now self.now.list.now.segments
+            (padded_value s.asker) self.now.depth self.now.root.now
+            × IsFresh self.now.jobs.now (padded_value s.asker) self.now.depth self.now.root.now s)
+            seated.items }
         ensures len { IfOk result (λ v. vec_len v ≡ vec_len seated.entry) }
-        ensures done { IfOk result (λ v. (k : ℕ) (d : _) → k < vec_len seated.entry → IsDoneWith self.now.jobs.now (padded_value (slice_index_or seated.entry.items k d).asker) self.now.depth self.now.root.now (slice_index_or v.items k d)) }
+        ensures done { IfOk result (λ v. (k : ℕ) (d : _) → k < vec_len seated.entry
+            → IsDoneWith self.now.jobs.now (padded_value
+            (slice_index_or seated.entry.items k d).asker) self.now.depth self.now.root.now
+            (slice_index_or v.items k d)) }
     {
         map_vec(
             rt,
             seated,
             &|one: Seated| -> Seated
-                requires { AreJobsOf self.now.jobs.now self.now.list.now.segments (padded_value one.asker) self.now.depth self.now.root.now × IsFresh self.now.jobs.now (padded_value one.asker) self.now.depth self.now.root.now one }
-                ensures { IsDoneWith self.entry.now.jobs.now (padded_value one.entry.asker) self.entry.now.depth self.entry.now.root.now result }
+                requires { AreJobsOf self.now.jobs.now self.now.list.now.segments
+                    (padded_value one.asker) self.now.depth self.now.root.now
+                    × IsFresh self.now.jobs.now (padded_value one.asker) self.now.depth
+                    self.now.root.now one }
+                ensures { IsDoneWith self.entry.now.jobs.now
+                    (padded_value one.entry.asker) self.entry.now.depth self.entry.now.root.now
+                    result }
             { self.work(one) },
         )
     }
@@ -91,10 +104,12 @@ impl<'d, G: Gate> Shift<'d, G> {
         ensures terms { crew.new.terms ≡ crew.old.terms }
         ensures none_left { OnOk result (crew.new.count ≡ 0) }
         ensures seat { IsSeatOf self.now.jobs.now whole.new }
-        ensures unused { Worked crew.old.terms self.now.depth self.now.root.now (view whole.new) None }
+        ensures unused { Worked crew.old.terms self.now.depth self.now.root.now
+            (view whole.new) None }
         ensures weight { IfOk result (λ v. (view whole.new).weight + vec_len v ≡ 65536) }
         ensures all { IfOk result (λ v. vec_len v ≡ crew.old.count) }
-        ensures fresh { IfOk result (λ v. All (IsFresh self.now.jobs.now crew.old.terms self.now.depth self.now.root.now) v.items) }
+        ensures fresh { IfOk result (λ v. All
+            (IsFresh self.now.jobs.now crew.old.terms self.now.depth self.now.root.now) v.items) }
     {
         let mut seated = Vec::new(alloc);
         while let Some(asker) = crew.take() {
@@ -115,17 +130,20 @@ impl<'d, G: Gate> Shift<'d, G> {
         crew: &mut Crew<'a>,
         done: Vec<Seated<'a>>,
     ) -> Result<Option<StoppedJob>, AllocError>
-        requires done { All (IsDoneWith self.now.jobs.now crew.old.terms self.now.depth self.now.root.now) done.items }
+        requires done { All (IsDoneWith self.now.jobs.now crew.old.terms self.now.depth
+            self.now.root.now) done.items }
         requires some { 1 ≤ vec_len done }
         requires seat { IsSeatOf self.now.jobs.now whole.old }
-        requires unused { Worked crew.old.terms self.now.depth self.now.root.now (view whole.old) None }
+        requires unused { Worked crew.old.terms self.now.depth self.now.root.now
+            (view whole.old) None }
         requires weight { (view whole.old).weight + vec_len done ≡ 65536 }
         ensures terms { crew.new.terms ≡ crew.old.terms }
         ensures count { OnOk result (crew.new.count ≡ crew.old.count + vec_len done.entry) }
         ensures seat { IsSeatOf self.now.jobs.now whole.new }
         ensures weight { OnOk result ((view whole.new).weight ≡ 65536) }
         ensures ended { OnOk result (has_ended (view whole.new) ≡ true) }
-        ensures worked { IfOk result (Worked crew.old.terms self.now.depth self.now.root.now (view whole.new)) }
+        ensures worked { IfOk result (Worked crew.old.terms self.now.depth self.now.root.now
+            (view whole.new)) }
     {
         let mut done = done;
         let mut stopped = None;
@@ -144,9 +162,12 @@ impl<'d, G: Gate> Shift<'d, G> {
 
     // Lets a worker claim jobs until none is left.
     fn work<'a>(&self, seated: Seated<'a>) -> Seated<'a>
-        requires jobs { AreJobsOf self.now.jobs.now self.now.list.now.segments (padded_value seated.asker) self.now.depth self.now.root.now }
-        requires fresh { IsFresh self.now.jobs.now (padded_value seated.asker) self.now.depth self.now.root.now seated }
-        ensures { IsDoneWith self.now.jobs.now (padded_value seated.entry.asker) self.now.depth self.now.root.now result }
+        requires jobs { AreJobsOf self.now.jobs.now self.now.list.now.segments
+            (padded_value seated.asker) self.now.depth self.now.root.now }
+        requires fresh { IsFresh self.now.jobs.now
+            (padded_value seated.asker) self.now.depth self.now.root.now seated }
+        ensures { IsDoneWith self.now.jobs.now
+            (padded_value seated.entry.asker) self.now.depth self.now.root.now result }
     {
         let Seated {
             asker,
@@ -162,10 +183,11 @@ impl<'d, G: Gate> Shift<'d, G> {
         }
     }
 
-    // Claims jobs until none is left, leaves those alone that are above the least decisive one that it
-    // sees, and reports the decisive ones. It answers the least of the jobs that stopped.
+    // Claims jobs until none is left, leaves those alone that are above the least decisive one that
+    // it sees, and reports the decisive ones. It answers the least of the jobs that stopped.
     fn claim_all(&self, asker: &mut Asker, seat: &mut JobSeat) -> Option<StoppedJob>
-        requires jobs { AreJobsOf self.now.jobs.now self.now.list.now.segments asker.old self.now.depth self.now.root.now }
+        requires jobs { AreJobsOf self.now.jobs.now self.now.list.now.segments asker.old
+            self.now.depth self.now.root.now }
         requires seat { IsSeatOf self.now.jobs.now seat.old }
         requires worked { Worked asker.old self.now.depth self.now.root.now (view seat.old) None }
         ensures same { asker.new ≡ asker.old }
@@ -181,9 +203,9 @@ impl<'d, G: Gate> Shift<'d, G> {
         stopped
     }
 
-    // Asks about a job that the seat has just drawn, unless it is above the least decisive one that it
-    // sees, and reports it where it is decisive. Of the job and the one that stopped before, it answers
-    // the lesser that stopped.
+    // Asks about a job that the seat has just drawn, unless it is above the least decisive one that
+    // it sees, and reports it where it is decisive. Of the job and the one that stopped before, it
+    // answers the lesser that stopped.
     fn ask_drawn(
         &self,
         asker: &mut Asker,
@@ -191,13 +213,16 @@ impl<'d, G: Gate> Shift<'d, G> {
         job: u32,
         stopped: Option<StoppedJob>,
     ) -> Option<StoppedJob>
-        requires jobs { AreJobsOf self.now.jobs.now self.now.list.now.segments asker.old self.now.depth self.now.root.now }
+        requires jobs { AreJobsOf self.now.jobs.now self.now.list.now.segments asker.old
+            self.now.depth self.now.root.now }
         requires seat { IsSeatOf self.now.jobs.now seat.old }
         requires job { (job < count_of self.now.jobs.now) × Stands job (view seat.old).drawn }
         ensures same { asker.new ≡ asker.old }
         ensures seat { IsSeatOf self.now.jobs.now seat.new }
         ensures kept { KeepsDrawn (view seat.old) (view seat.new) }
-        ensures worked { (v : SeatView) → view seat.old ≡ view_after_draw v job → Worked asker.old self.now.depth self.now.root.now v stopped → Worked asker.old self.now.depth self.now.root.now (view seat.new) result }
+        ensures worked { (v : SeatView) → view seat.old ≡ view_after_draw v job
+            → Worked asker.old self.now.depth self.now.root.now v stopped
+            → Worked asker.old self.now.depth self.now.root.now (view seat.new) result }
     {
         if job > self.jobs.least(seat) {
             return stopped;
@@ -216,11 +241,13 @@ impl<'d, G: Gate> Shift<'d, G> {
 
     // Asks about the job of this number, and says whether it is decisive.
     fn ask_job(&self, asker: &mut Asker, job: u32) -> Result<bool, Stop>
-        requires jobs { AreJobsOf self.now.jobs.now self.now.list.now.segments asker.old self.now.depth self.now.root.now }
+        requires jobs { AreJobsOf self.now.jobs.now self.now.list.now.segments asker.old
+            self.now.depth self.now.root.now }
         requires job { job < count_of self.now.jobs.now }
         ensures same { asker.new ≡ asker.old }
         ensures decides { IfOk result (Decides asker.old self.now.depth self.now.root.now job) }
-        ensures stop { IfErr result (IsStop asker.old (λ q j. IsJob asker.old self.now.root.now job q × (j ≡ self.now.depth))) }
+        ensures stop { IfErr result (IsStop asker.old
+            (λ q j. IsJob asker.old self.now.root.now job q × (j ≡ self.now.depth))) }
     {
         let own = self.root.side == asker.attacker();
         let q = self.list.get(job);

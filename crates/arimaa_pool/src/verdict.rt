@@ -9,8 +9,8 @@ pub enum Verdict {
     Yes {
         /// The least number of turns within which it does.
         rank: u8,
-        /// What it plays: one entry for each undecided position with the attacker to move that may be
-        /// met, in the order of first meeting.
+        /// What it plays: one entry for each undecided position with the attacker to move that may
+        /// be met, in the order of first meeting.
         strategy: Strategy,
     },
     /// It does not.

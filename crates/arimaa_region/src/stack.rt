@@ -18,7 +18,7 @@ use std::marker::Model;
 /// among all that are live, from 0. At most 64 segments are open at a time.
 #[derive(Drop)]
 pub(crate) struct Stack<T: Key> {
-    // What each place has; those from `index.len()` on are free.
+    // What each taken place has. Its memory is for all places.
     places: Vec<T>,
     index: Index,
     // The first place of each open segment, the lowest segment first.
@@ -28,7 +28,7 @@ pub(crate) struct Stack<T: Key> {
 }
 
 impl<T: Key> Model for Stack<T> {
-    ghost use Rattle.std.specs.Prelude.{length};
+    ghost use Rattle.std.specs.Prelude.{◌≤◌, length, vec_capacity};
     ghost use Rattle.arimaa_region.specs.Layout.{cut, IsSound};
     ghost use Rattle.arimaa_region.specs.Segments.{Stacked, stacked_code};
 
@@ -36,9 +36,13 @@ impl<T: Key> Model for Stack<T> {
 
     ghost coded = { stacked_code T.code };
 
-    ghost view = { λ r. record { room = r.room; segments = cut r.places.items r.starts r.open_segments (length r.index.buckets) } };
+    ghost view = { λ r. record {
+      room = r.room;
+      segments = cut r.places.items r.starts r.open_segments (length r.index.buckets);
+    } };
 
-    ghost invariant = { λ r. IsSound T.hash_of r.room r.open_segments r.places.items r.index r.starts };
+    ghost invariant = { λ r. (IsSound T.hash_of r.room r.open_segments r.places.items r.index r.starts)
+        × (r.room ≤ vec_capacity r.places) };
 }
 
 // The place after a segment: where the next one begins, or where the live places end.
@@ -56,16 +60,16 @@ fn end_of(starts: &[u32; 64], open_segments: u8, live: u32, number: u8) -> u32
 }
 
 impl<T: Key> Stack<T> {
-    /// A stack of so many places, at least one, with no segment open. The value fills the free places.
+    /// A stack of so many places, at least one, with no segment open.
     ///
     /// This call alone takes memory: the size of a value and 9 bytes a place.
-    pub(crate) fn with_room(alloc: Global, free: T, room: u32) -> Result<Stack<T>, AllocError>
+    pub(crate) fn with_room(alloc: Global, room: u32) -> Result<Stack<T>, AllocError>
         requires { 1 ≤ room }
         ensures room { IfOk result (λ r. r.room ≡ room) }
         ensures empty { IfOk result (λ r. r.segments ≡ []) }
     {
         Ok(Stack {
-            places: vec![in alloc; free; room as usize]?,
+            places: Vec::with_capacity(alloc, room as usize)?,
             index: Index::with_room(alloc, room)?,
             starts: [0; 64],
             open_segments: 0,
@@ -99,7 +103,7 @@ impl<T: Key> Stack<T> {
         if place == self.room {
             return Placed::Full;
         }
-        self.places[place as usize] = value;
+        self.places.push_reserved(value);
         self.index.push(bucket);
         Placed::New(place)
     }
@@ -112,7 +116,8 @@ impl<T: Key> Stack<T> {
         self.places[place as usize]
     }
 
-    /// Where a segment lies, by the number of segments below it: its first place, and how many values it has.
+    /// Where a segment lies, by the number of segments below it: its first place, and how many
+    /// values it has.
     pub(crate) fn segment(&self, number: u8) -> (u32, u32)
         requires { number < length self.now.segments }
         ensures first { result.0 ≡ length (live_of (lowest number self.now.segments)) }
@@ -140,8 +145,9 @@ impl<T: Key> Stack<T> {
         ensures { self.new ≡ record self.old { segments = below_top self.old.segments } }
     {
         self.open_segments -= 1;
-        self.index
-            .truncate(self.starts[self.open_segments as usize]);
+        let first = self.starts[self.open_segments as usize];
+        self.index.truncate(first);
+        self.places.truncate(first as usize);
     }
 
     /// Closes all segments and gives their places back.
@@ -150,5 +156,6 @@ impl<T: Key> Stack<T> {
     {
         self.open_segments = 0;
         self.index.truncate(0);
+        self.places.clear();
     }
 }

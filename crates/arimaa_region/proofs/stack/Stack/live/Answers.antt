@@ -5,9 +5,9 @@ use Rattle.arimaa_region.proofs.stack.Stack.live.Goals as goal
 
 pub returns-clause-count : goal.returns-clause-count
 returns-clause-count g c =
-    c.len.ensures.count ∙ (sym (live_count c.self.invariant) ∙ ap (λ (h : Stacked g.row.T.Denot). length (live_of h.segments)) c.self.view_is)
+    c.len.ensures.count ∙ (sym (live_count c.self.invariant.0) ∙ ap (λ (h : Stacked g.row.T.Denot). length (live_of h.segments)) c.self.view_is)
 
 pub returns-clause-within : goal.returns-clause-within
 returns-clause-within g c =
     let Within : Stacked g.row.T.Denot → Type 0 = λ h. length (live_of h.segments) ≤ h.room in
-    subst Within c.self.view_is (rw (live_count c.self.invariant) c.self.invariant.fits)
+    subst Within c.self.view_is (rw (live_count c.self.invariant.0) c.self.invariant.0.fits)

@@ -8,7 +8,7 @@ pub bounds-self-inside-number : goal.bounds-self-inside-number
 bounds-self-inside-number g c =
     let r = c.self.inside in
     let opened = open_count r.room r.open_segments r.places.items (length r.index.buckets) r.starts _ c.self.view_is in
-    omega (arith, c.requires, c.self.invariant.open_few)
+    omega (arith, c.requires, c.self.invariant.0.open_few)
 
 pub end_of-end-requires-clause-open : goal.end_of-end-requires-clause-open
 end_of-end-requires-clause-open g c =
@@ -21,7 +21,7 @@ overflow_sub-result g c =
     let r = c.self.inside in
     let opened = open_count r.room r.open_segments r.places.items (length r.index.buckets) r.starts _ c.self.view_is in
     let below : c.args.number < r.open_segments = omega (arith, c.requires) in
-    (lies c.args.number c.end_of-end.result below (λ h. c.end_of-end.ensures.top h ∙ c.len.ensures.count) c.end_of-end.ensures.lower c.self.invariant).rises
+    (lies c.args.number c.end_of-end.result below (λ h. c.end_of-end.ensures.top h ∙ c.len.ensures.count) c.end_of-end.ensures.lower c.self.invariant.0).rises
 
 pub returns : goal.returns
 returns g c =
@@ -31,5 +31,5 @@ returns g c =
     let opened = open_count r.room r.open_segments r.places.items (length r.index.buckets) r.starts _ c.self.view_is in
     let below : m < r.open_segments = omega (arith, c.requires) in
     let Lies : Stacked g.row.T.Denot → ℕ → Type 0 = λ h k. LiesAt h.segments k (slice_index r.starts m) e in
-    let l = subst (λ (h : Stacked g.row.T.Denot). Lies h m) c.self.view_is (lies m e below (λ h. c.end_of-end.ensures.top h ∙ c.len.ensures.count) c.end_of-end.ensures.lower c.self.invariant) in
+    let l = subst (λ (h : Stacked g.row.T.Denot). Lies h m) c.self.view_is (lies m e below (λ h. c.end_of-end.ensures.top h ∙ c.len.ensures.count) c.end_of-end.ensures.lower c.self.invariant.0) in
     record { first = l.begins; size = l.size; places = l.its_places; distinct = l.distinct }
