@@ -90,6 +90,7 @@ impl<T: Key> Stack<T> {
     }
 
     /// Puts a value at the end of the top segment, unless it is there or no place is free.
+    #[inline(always)]
     pub(crate) fn place(&mut self, value: T) -> Placed
         requires { 0 < length self.old.segments }
         ensures { IsPlaced T.same self.old value result self.new }

@@ -1,5 +1,5 @@
 -- The first of some steps.
-use Rattle.std.proofs.Common.{◌≡◌, ◌≢◌, ℕ, zero, suc, ◌+◌, ◌<◌, ◌≤◌, Bool, true, false, cond, Option, None, Some, bit_or, max, refl, sym, ◌∙◌, ap, subst, arith, le_refl, ⊎_elim}
+use Rattle.std.proofs.Common.{◌≡◌, ℕ, zero, suc, ◌+◌, ◌<◌, ◌≤◌, Bool, true, false, cond, None, Some, bit_or, max, refl, sym, ◌∙◌, ap, arith, ⊎_elim}
 use Rattle.std.specs.Prelude.{◌==◌, ◌&&◌, ◌||◌, not}
 use Rattle.std.specs.Int.{bit_at}
 use Rattle.std.specs.List.{find, range_with_len}
@@ -9,7 +9,6 @@ use Rattle.arimaa_board.specs.declared.square.Dir.{Dir}
 use Rattle.arimaa_board.specs.declared.square.Dir.TheVariants.{North, East, South, West}
 use Rattle.arimaa_board.specs.Masks.{bit_of, IsMaskOf, is_in, first_in}
 use Rattle.arimaa_step.specs.declared.accepted.AcceptedSteps.{AcceptedSteps}
-use Rattle.arimaa_step.specs.Accepted.{mask_towards}
 use Rattle.arimaa_results.specs.NextStates.{has_step, same_dir, IsFirstDirection, IsTaken}
 
 bit_is : (b : ℕ) → b < 2 → b ≡ bit_of (b == 1)
@@ -76,7 +75,7 @@ no_direction t none West = fourth (t North) (t East) (t South) (t West) none whe
   fourth false false false true h = cc
   fourth false false false false h = refl
 
-last_direction : (n e s w : Bool) → (((n || e) || s) || w) ≡ true → n ≡ false → e ≡ false → s ≡ false → w ≡ true
+pub last_direction : (n e s w : Bool) → (((n || e) || s) || w) ≡ true → n ≡ false → e ≡ false → s ≡ false → w ≡ true
 last_direction n e s w some no_n no_e no_s = sym (λ i. (((no_n i || no_e i) || no_s i) || w)) ∙ some
 
 -- the first number that passes
@@ -133,9 +132,6 @@ lowest_there a m first =
       none_lower = λ n d lower. no_direction (has_step a n) (sym (in_squares a n) ∙ found.before n (omega arith) lower) d;
     }
 
-pub west_there : (a : AcceptedSteps) (m : ℕ) → IsLowest a m → has_step a m North ≡ false → has_step a m East ≡ false → has_step a m South ≡ false → has_step a m West ≡ true
-west_there a m lowest = last_direction (has_step a m North) (has_step a m East) (has_step a m South) (has_step a m West) lowest.some
-
 kept_by : (x y : Bool) → x ≡ (x && not (y && false))
 kept_by true true = refl
 kept_by true false = refl
@@ -145,44 +141,25 @@ taken_by : (x y : Bool) → (x && not y) ≡ (x && not (y && true))
 taken_by x true = refl
 taken_by x false = refl
 
-module _ (a : AcceptedSteps) (m : ℕ) (lowest : IsLowest a m) (rest : ℕ) where
-  abbrev pub Without : Dir → Type 0
-  Without d = IsMaskOf (λ n. is_in (mask_towards a d) n && not (n == m)) rest
+-- a mask after a step was taken from it, or one in another direction
+pub without_taken : (mask rest m : ℕ) → IsMaskOf (λ n. is_in mask n && not (n == m)) rest → (n : ℕ) → n < 64 → is_in rest n ≡ (is_in mask n && not (n == m && true))
+without_taken mask rest m w n small = in_mask (λ k. is_in mask k && not (k == m)) rest n w small ∙ taken_by (is_in mask n) (n == m)
 
-  gone : (d : Dir) → Without d → (n : ℕ) → n < 64 → is_in rest n ≡ (has_step a n d && not (n == m && true))
-  gone d w n small = in_mask (λ k. is_in (mask_towards a d) k && not (k == m)) rest n w small ∙ taken_by (has_step a n d) (n == m)
+pub with_all : (mask m n : ℕ) → is_in mask n ≡ (is_in mask n && not (n == m && false))
+with_all mask m n = kept_by (is_in mask n) (n == m)
 
-  stays : (n : ℕ) (d : Dir) → has_step a n d ≡ (has_step a n d && not (n == m && false))
-  stays n d = kept_by (has_step a n d) (n == m)
+module _ (a : AcceptedSteps) (m : ℕ) (d : Dir) where
+  -- a mask has what is left of a direction's steps
+  abbrev pub IsLeft : Dir → ℕ → Type 0
+  IsLeft e rest = (n : ℕ) → n < 64 → is_in rest n ≡ (has_step a n e && not (n == m && same_dir e d))
 
-  pub north_taken : has_step a m North ≡ true → Without North → IsTaken a m North (record a { north = rest })
-  north_taken here w = record { on_board = lowest.on_board; there = here; none_lower = lowest.none_lower; none_earlier = tt; left = by } where
-    by : (n : ℕ) (e : Dir) → n < 64 → has_step (record a { north = rest }) n e ≡ (has_step a n e && not (n == m && same_dir e North))
-    by n North small = gone North w n small
-    by n East small = stays n East
-    by n South small = stays n South
-    by n West small = stays n West
-
-  pub east_taken : has_step a m North ≡ false → has_step a m East ≡ true → Without East → IsTaken a m East (record a { east = rest })
-  east_taken no_n here w = record { on_board = lowest.on_board; there = here; none_lower = lowest.none_lower; none_earlier = no_n; left = by } where
-    by : (n : ℕ) (e : Dir) → n < 64 → has_step (record a { east = rest }) n e ≡ (has_step a n e && not (n == m && same_dir e East))
-    by n North small = stays n North
-    by n East small = gone East w n small
-    by n South small = stays n South
-    by n West small = stays n West
-
-  pub south_taken : has_step a m North ≡ false → has_step a m East ≡ false → has_step a m South ≡ true → Without South → IsTaken a m South (record a { south = rest })
-  south_taken no_n no_e here w = record { on_board = lowest.on_board; there = here; none_lower = lowest.none_lower; none_earlier = (no_n, no_e); left = by } where
-    by : (n : ℕ) (e : Dir) → n < 64 → has_step (record a { south = rest }) n e ≡ (has_step a n e && not (n == m && same_dir e South))
-    by n North small = stays n North
-    by n East small = stays n East
-    by n South small = gone South w n small
-    by n West small = stays n West
-
-  pub west_taken : has_step a m North ≡ false → has_step a m East ≡ false → has_step a m South ≡ false → Without West → IsTaken a m West (record a { west = rest })
-  west_taken no_n no_e no_s w = record { on_board = lowest.on_board; there = west_there a m lowest no_n no_e no_s; none_lower = lowest.none_lower; none_earlier = (no_n, no_e, no_s); left = by } where
-    by : (n : ℕ) (e : Dir) → n < 64 → has_step (record a { west = rest }) n e ≡ (has_step a n e && not (n == m && same_dir e West))
-    by n North small = stays n North
-    by n East small = stays n East
-    by n South small = stays n South
-    by n West small = gone West w n small
+  pub step_taken : IsLowest a m → has_step a m d ≡ true → IsFirstDirection (has_step a m) d
+      → (north east south west : ℕ) → IsLeft North north → IsLeft East east → IsLeft South south → IsLeft West west
+      → IsTaken a m d (record { north = north; east = east; south = south; west = west })
+  step_taken lowest there first north east south west n e s w =
+      record { on_board = lowest.on_board; there = there; none_lower = lowest.none_lower; none_earlier = first; left = by } where
+        by : (k : ℕ) (f : Dir) → k < 64 → has_step (record { north = north; east = east; south = south; west = west }) k f ≡ (has_step a k f && not (k == m && same_dir f d))
+        by k North small = n k small
+        by k East small = e k small
+        by k South small = s k small
+        by k West small = w k small

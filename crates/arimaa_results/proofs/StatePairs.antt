@@ -1,9 +1,12 @@
 -- The states that one more step makes, by the steps that are left.
 use Rattle.std.proofs.Common.{◌≡◌, ◌≢◌, ℕ, zero, suc, ◌+◌, ◌<◌, ◌≤◌, List, [], ◌∷◌, ◌++◌, map, Bool, true, false, cond, Option, None, Some, Result, Ok, Err, refl, sym, ◌∙◌, ap, arith, ⊎_elim, ne_eqb, eq-eqb, append_assoc}
 use Rattle.std.specs.Prelude.{◌==◌, ◌&&◌, not, is_ok}
-use Rattle.std.specs.List.{flat_map, range_with_len}
+use Rattle.std.specs.List.{filter, flat_map, range_with_len}
 use Rattle.std.specs.Option.{option_to_list}
-use Rattle.std.proofs.lemmas.Bool.{cases_eq, cases_lt, true≢false}
+use Rattle.arimaa_board.specs.declared.position.Position.{Position}
+use Rattle.arimaa_model.specs.declared.fault.TurnFault.{TurnFault}
+use Rattle.arimaa_model.specs.declared.fault.TurnFault.TheVariants.{Empty, Unfinished}
+use Rattle.std.proofs.lemmas.Bool.{and_parts, cases_eq, true≢false}
 use Rattle.arimaa_board.specs.declared.square.Dir.{Dir}
 use Rattle.arimaa_board.specs.declared.square.Dir.TheVariants.{North, East, South, West}
 use Rattle.arimaa_board.specs.declared.piece.Piece.{Piece}
@@ -19,13 +22,13 @@ use Rattle.arimaa_model.proofs.Reaching.{candidates-is}
 use Rattle.arimaa_step.specs.declared.accepted.AcceptedSteps.{AcceptedSteps}
 use Rattle.arimaa_step.specs.declared.state.StepDone.{StepDone}
 use Rattle.arimaa_step.specs.declared.state.TurnState.{TurnState}
-use Rattle.arimaa_step.specs.Accepted.{accepts, accepts_content, AreAccepted, mask_towards}
-use Rattle.arimaa_step.specs.Next.{next_answer, next_fault, next_state}
+use Rattle.arimaa_step.specs.Accepted.{accepts, accepts_content, ends_by, ends_content, AreAccepted, AreEnding, mask_towards}
+use Rattle.arimaa_step.specs.Next.{next_answer, next_fault, next_state, cuts_next, state_end}
 use Rattle.arimaa_step.specs.State.{trap_first}
 use Rattle.arimaa_step.proofs.AcceptedLaws.{and_true, and_false}
 use Rattle.arimaa_model.specs.Marks.{removed_by}
-use Rattle.arimaa_results.specs.Ahead.{made, states_by, next_states}
-use Rattle.arimaa_results.specs.NextStates.{pairs_by, next_pairs, pairs_of_content, has_step, pairs_from, pairs_left, AreAllAccepted, same_dir, IsFirstDirection, IsTaken}
+use Rattle.arimaa_results.specs.Ahead.{made, states_by, next_states, value_of, allowed, given_by}
+use Rattle.arimaa_results.specs.NextStates.{AreAllEnding, ends_of, pairs_by, next_pairs, pairs_of_content, has_step, pairs_from, pairs_left, AreAllAccepted, same_dir, IsFirstDirection, IsTaken}
 use Rattle.arimaa_results.proofs.FirstSteps.{in_mask}
 
 -- numbers that give the same
@@ -108,21 +111,21 @@ module _ (st : TurnState) where
   refused_content n d None out = refl
   refused_content n d (Some p) out = refused (step_of n d p) out
 
+  by_content : (n : ℕ) (o : Option Piece) → flat_map (λ d. pairs_of_content st n d o) directions ≡ flat_map (pairs_by st) (steps_of n o)
+  by_content n None = refl
+  by_content n (Some p) = refl
+
   -- the states by all steps that are accepted are the next states
   pub all_pairs : (a : AcceptedSteps) → AreAccepted st a → pairs_left st a ≡ next_pairs st
   unfolding pairs_left next_pairs
   all_pairs a are =
       same_numbers (pairs_from st a) (λ n. flat_map (pairs_by st) (steps_of n (at st.board n))) 64 0 (λ n _ small. from n small)
       ∙ sym (ap (flat_map (pairs_by st)) (candidates-is st.board) ∙ flat_map-flat_map (pairs_by st) (λ n. steps_of n (at st.board n)) (range_with_len 0 64)) where
-        content : (n : ℕ) (o : Option Piece) → flat_map (λ d. pairs_of_content st n d o) directions ≡ flat_map (pairs_by st) (steps_of n o)
-        content n None = refl
-        content n (Some p) = refl
-
         from : (n : ℕ) → n < 64 → pairs_from st a n ≡ flat_map (pairs_by st) (steps_of n (at st.board n))
         from n small =
             by_test-all (has_step a n) (λ d. pairs_of_content st n d (at st.board n))
             (λ d out. refused_content n d (at st.board n) (sym (in_mask (accepts st d) (mask_towards a d) n (are d) small) ∙ out))
-            ∙ content n (at st.board n)
+            ∙ by_content n (at st.board n)
 
   -- all of them are accepted
   pub all_accepted : (a : AcceptedSteps) → AreAccepted st a → AreAllAccepted st a
@@ -161,6 +164,38 @@ module _ (st : TurnState) where
     pub is_accepted : (p : Piece) → at st.board m ≡ Some p → is_ok (next_answer st (step_of m d p)) ≡ true
     is_accepted p here = sym (ap (accepts_content st d m) here) ∙ are d m taken.on_board taken.there
 
+  ending_content : (d : Dir) (n : ℕ) (o : Option Piece) → ends_content st d n o ≡ true → accepts_content st d n o ≡ true
+  ending_content d n None ends = ends
+  ending_content d n (Some p) ends = (and_parts _ _ ends).0
+
+  -- steps that end a move are accepted
+  ending_accepted : (a : AcceptedSteps) → AreAllEnding st a → AreAllAccepted st a
+  ending_accepted a are d n small there = ending_content d n (at st.board n) (are d n small there)
+
+  -- all of them end a move
+  pub all_ending : (a : AcceptedSteps) → AreEnding st a → AreAllEnding st a
+  all_ending a are d n small there = sym (in_mask (ends_by st d) (mask_towards a d) n (are d) small) ∙ there
+
+  module _ (old : AcceptedSteps) (m : ℕ) (d : Dir) (new : AcceptedSteps) (taken : IsTaken old m d new) (are : AreAllEnding st old) where
+    -- the first step ends a move
+    pub first_ends : ends_by st d m ≡ true
+    first_ends = are d m taken.on_board taken.there
+
+    -- and so do those that are left
+    pub left_ending : AreAllEnding st new
+    left_ending e n small there = are e n small (and_parts (has_step old n e) (not (n == m && same_dir e d)) (sym (taken.left n e small) ∙ there)).0
+
+    ends_content_taken : (r : Result Position TurnFault) → ((p : Piece) → at st.board m ≡ Some p → r ≡ state_end (next_state st (step_of m d p)))
+        → (o : Option Piece) → at st.board m ≡ o → ends_of (pairs_left st old) ≡ r ∷ ends_of (pairs_left st new)
+    ends_content_taken r is None none = absurd (holds_piece old m d new taken (ending_accepted old are) none)
+    ends_content_taken r is (Some p) here =
+        ap ends_of (pairs_taken old m d new taken (ending_accepted old are) p here)
+        ∙ sym (ap (λ x. x ∷ ends_of (pairs_left st new)) (is p here))
+
+    -- what the end of the turn answers after the first step, and then after those that are left
+    pub ends_taken : (r : Result Position TurnFault) → ((p : Piece) → at st.board m ≡ Some p → r ≡ state_end (next_state st (step_of m d p))) → ends_of (pairs_left st old) ≡ r ∷ ends_of (pairs_left st new)
+    ends_taken r is = ends_content_taken r is (at st.board m) refl
+
   -- nothing is left
   pub pairs_none : (a : AcceptedSteps) → ((n : ℕ) (d : Dir) → n < 64 → has_step a n d ≡ false) → pairs_left st a ≡ []
   unfolding pairs_left
@@ -171,6 +206,51 @@ module _ (st : TurnState) where
     empty : (k b : ℕ) → flat_map nothing (range_with_len b k) ≡ []
     empty zero b = refl
     empty (suc k) b = empty k (b + 1)
+
+unfinished : (early cut : Bool) (r : Result Position TurnFault) → cut ≡ false → value_of (cond early (Err Empty) (cond (not cut) (Err Unfinished) r)) ≡ None
+unfinished true cut r torn = refl
+unfinished false cut r torn = rw torn refl
+
+module _ (barred : List Position) (st : TurnState) where
+  -- what a step and its state give
+  abbrev given : Step × TurnState → List Position
+  given pr = given_by barred (state_end pr.1)
+
+  -- a step that is refused, or after which the steps can't be cut, gives nothing
+  given_none : (s : Step) → (is_ok (next_answer st s) && cuts_next st s) ≡ false → flat_map given (pairs_by st s) ≡ []
+  given_none s not_both =
+      elim (is_ok (next_answer st s)) as (λ v. is_ok (next_answer st s) ≡ v → (v && cuts_next st s) ≡ false → flat_map given (pairs_by st s) ≡ []) [
+        | true ↦ λ fine torn.
+            ap (flat_map given) (accepted st s fine)
+            ∙ ap (λ o. filter (allowed barred) (option_to_list o) ++ []) (unfinished (st.count + 1 == 0) (cuts_next st s) _ torn)
+        | false ↦ λ fails _. ap (flat_map given) (refused st s fails)
+      ] refl not_both
+
+  given_content : (n : ℕ) (d : Dir) (o : Option Piece) → ends_content st d n o ≡ false → flat_map given (pairs_of_content st n d o) ≡ []
+  given_content n d None out = refl
+  given_content n d (Some p) out = given_none (step_of n d p) out
+
+  -- the steps that end a move give what all accepted ones give
+  given_from : (a : AcceptedSteps) → AreEnding st a → (n : ℕ) → n < 64 → flat_map given (pairs_from st a n) ≡ flat_map given (flat_map (pairs_by st) (steps_of n (at st.board n)))
+  given_from a are n small =
+      flat_map-flat_map given (λ d. cond (has_step a n d) (pairs_of_content st n d (at st.board n)) []) directions
+      ∙ ((λ i. flat_map (λ d. each d i) directions)
+      ∙ (sym (flat_map-flat_map given (λ d. pairs_of_content st n d (at st.board n)) directions)
+      ∙ ap (flat_map given) (by_content st n (at st.board n)))) where
+        each : (d : Dir) → flat_map given (cond (has_step a n d) (pairs_of_content st n d (at st.board n)) []) ≡ flat_map given (pairs_of_content st n d (at st.board n))
+        each d = elim (has_step a n d) as (λ v. has_step a n d ≡ v → flat_map given (cond v (pairs_of_content st n d (at st.board n)) []) ≡ flat_map given (pairs_of_content st n d (at st.board n))) [
+          | true ↦ λ _. refl
+          | false ↦ λ out. sym (given_content n d (at st.board n) (sym (in_mask (ends_by st d) (mask_towards a d) n (are d) small) ∙ out))
+        ] refl
+
+  pub ending_given : (a : AcceptedSteps) → AreEnding st a → flat_map given (pairs_left st a) ≡ flat_map given (next_pairs st)
+  unfolding pairs_left next_pairs
+  ending_given a are =
+      flat_map-flat_map given (pairs_from st a) (range_with_len 0 64)
+      ∙ (same_numbers (λ n. flat_map given (pairs_from st a n)) (λ n. flat_map given (flat_map (pairs_by st) (steps_of n (at st.board n)))) 64 0 (λ n _ small. given_from a are n small)
+      ∙ sym (ap (λ l. flat_map given (flat_map (pairs_by st) l)) (candidates-is st.board)
+      ∙ (ap (flat_map given) (flat_map-flat_map (pairs_by st) (λ n. steps_of n (at st.board n)) (range_with_len 0 64))
+      ∙ flat_map-flat_map given (λ n. flat_map (pairs_by st) (steps_of n (at st.board n))) (range_with_len 0 64))))
 
 -- what the pairs give by their states is what the next states give
 pub pairs_give : {Y : Type 0} (F : TurnState → List Y) (st : TurnState) → flat_map (λ (pr : Step × TurnState). F pr.1) (next_pairs st) ≡ flat_map F (next_states st)

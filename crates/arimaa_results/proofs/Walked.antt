@@ -1,13 +1,13 @@
 -- What the walk finds from a state.
-use Rattle.std.proofs.Common.{◌≡◌, ◌-◌, ◌<◌, ◌+◌, ◌∷◌, [], ℕ, zero, suc, List, length, Bool, true, false, cond, Option, None, Some, refl, sym, ◌∙◌, ap, arith}
+use Rattle.std.proofs.Common.{◌≡◌, ◌-◌, ◌<◌, ◌∷◌, [], ℕ, zero, suc, List, length, Bool, true, false, cond, Option, None, Some, refl, sym, ◌∙◌, ap, arith}
 use Rattle.std.specs.Option.{option_map, option_map_or, option_or}
 use Rattle.arimaa_board.specs.declared.position.Position.{Position}
 use Rattle.arimaa_board.specs.declared.position.Step.{Step}
 use Rattle.arimaa_step.specs.declared.state.TurnState.{TurnState}
 use Rattle.arimaa_step.specs.Next.{state_end}
 use Rattle.arimaa_results.specs.Ahead.{value_of}
-use Rattle.arimaa_results.specs.NextStates.{next_pairs}
-use Rattle.arimaa_results.specs.Walk.{first_given, found_now, found_from}
+use Rattle.arimaa_results.specs.NextStates.{next_pairs, last_of}
+use Rattle.arimaa_results.specs.Walk.{first_given, found_now, found_from, found_last}
 
 module _ (passes : Position → Bool) where
   -- what is found by a step and n more
@@ -26,6 +26,14 @@ module _ (passes : Position → Bool) where
   found_from-more left st pairs some all =
       let more : suc (left - 1) ≡ left = omega arith in
       ap (first_given (found_by (left - 1))) all ∙ (sym (found_from-suc (left - 1) st) ∙ ap (λ n. found_from passes n st) more)
+
+  -- what a step and the end of the turn after it give, one after another
+  last_given : (pairs : List (Step × TurnState)) → first_given (found_by 0) pairs ≡ first_given (found_last passes) (last_of pairs)
+  last_given [] = refl
+  last_given (pr ∷ pairs) = λ i. option_or (option_map (λ rest. pr.0 ∷ rest) (found_from-zero pr.1 i)) (last_given pairs i)
+
+  pub found_from-last : (st : TurnState) (pairs : List (Step × TurnState)) → pairs ≡ next_pairs st → first_given (found_last passes) (last_of pairs) ≡ found_from passes 1 st
+  found_from-last st pairs all = ap (λ l. first_given (found_last passes) (last_of l)) all ∙ sym (found_from-suc 0 st ∙ last_given (next_pairs st))
 
   -- what is found has as many steps as were asked for
   given_has : {X : Type 0} (f : X → Option (List Step)) (n : ℕ) → ((x : X) (ys : List Step) → f x ≡ Some ys → length ys ≡ n) → (xs : List X) (ys : List Step) → first_given f xs ≡ Some ys → length ys ≡ n

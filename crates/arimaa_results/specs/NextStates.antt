@@ -15,7 +15,7 @@ use Rattle.arimaa_model.specs.Plain.{candidates}
 use Rattle.arimaa_model.specs.Results.{step_of}
 use Rattle.arimaa_step.specs.declared.accepted.AcceptedSteps.{AcceptedSteps}
 use Rattle.arimaa_step.specs.declared.state.TurnState.{TurnState}
-use Rattle.arimaa_step.specs.Accepted.{accepts, mask_towards}
+use Rattle.arimaa_step.specs.Accepted.{accepts, ends_by, mask_towards}
 use Rattle.arimaa_step.specs.Next.{next_answer, next_state, state_end}
 use Rattle.arimaa_results.specs.Ahead.{states_by}
 
@@ -48,6 +48,10 @@ pairs_left st steps = flat_map (pairs_from st steps) (range_with_len 0 64)
 -- the state accepts each of some steps
 abbrev pub AreAllAccepted : TurnState → AcceptedSteps → Type 0
 AreAllAccepted st steps = (d : Dir) (n : ℕ) → n < 64 → has_step steps n d ≡ true → accepts st d n ≡ true
+
+-- a state ends a move by each of some steps
+abbrev pub AreAllEnding : TurnState → AcceptedSteps → Type 0
+AreAllEnding st steps = (d : Dir) (n : ℕ) → n < 64 → has_step steps n d ≡ true → ends_by st d n ≡ true
 
 -- whether two directions are the same
 abbrev pub same_dir : Dir → Dir → Bool
@@ -85,6 +89,10 @@ IsFirstTaken old (Some s) new = IsTaken old s.0 s.1 new
 -- what the ends of turns answer after each of some steps
 abbrev pub ends_of : List (Step × TurnState) → List (Result Position TurnFault)
 ends_of pairs = map (λ pr. state_end pr.1) pairs
+
+-- each step with what the end of the turn answers after it
+abbrev pub last_of : List (Step × TurnState) → List (Step × Result Position TurnFault)
+last_of pairs = map (λ pr. (pr.0, state_end pr.1)) pairs
 
 -- no step was taken exactly where the state accepts none of them, else the first, with the state that it makes
 pub record IsStepTaken (st : TurnState) (old : AcceptedSteps) (taken : Option Step) (new : AcceptedSteps) : Type 0 where

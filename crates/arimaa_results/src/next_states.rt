@@ -1,8 +1,9 @@
 //! The states that one more step makes, one after another.
-ghost use Rattle.std.specs.Prelude.{◌≡◌, ◌++◌, [], IfNone};
+ghost use Rattle.std.specs.Prelude.{◌≡◌, ◌++◌, [], IfNone, ℕ, ◌<◌, ◌==◌, ◌&&◌, ◌||◌, not, true};
 ghost use Rattle.std.specs.Option.{option_to_list};
 ghost use Rattle.arimaa_board.specs.Masks.{is_in};
-ghost use Rattle.arimaa_results.specs.NextStates.{AreAllAccepted, IsFirstTaken, IsStepTaken, ends_of, next_pairs};
+ghost use Rattle.arimaa_board.specs.declared.square.Dir.TheVariants.{North, East, South, West};
+ghost use Rattle.arimaa_results.specs.NextStates.{AreAllAccepted, IsFirstDirection, IsFirstTaken, IsStepTaken, has_step, last_of, next_pairs, same_dir};
 
 use arimaa_board::{Dir, Position, Square, Step, first_square, without};
 use arimaa_model::TurnFault;
@@ -16,30 +17,65 @@ fn has(mask: u64, square: Square) -> bool
     mask >> square.number() & 1 == 1
 }
 
+// Whether two directions are the same.
+fn same_dir(dir: Dir, other: Dir) -> bool
+    ensures { result ≡ same_dir dir other }
+{
+    match (dir, other) {
+        (Dir::North, Dir::North) => true,
+        (Dir::East, Dir::East) => true,
+        (Dir::South, Dir::South) => true,
+        (Dir::West, Dir::West) => true,
+        _ => false,
+    }
+}
+
+// The first direction, in the order north, east, south, west, of some steps from a square, of which there is one.
+#[inline(always)]
+fn first_direction(steps: &AcceptedSteps, from: Square) -> Dir
+    requires { (((has_step steps.now from North || has_step steps.now from East)
+        || has_step steps.now from South) || has_step steps.now from West) ≡ true }
+    ensures there { has_step steps.now from result ≡ true }
+    ensures none_earlier { IsFirstDirection (has_step steps.now from) result }
+{
+    if has(steps.north, from) {
+        return Dir::North;
+    }
+    if has(steps.east, from) {
+        return Dir::East;
+    }
+    if has(steps.south, from) {
+        return Dir::South;
+    }
+    Dir::West
+}
+
+// A mask without a square where the step from there is taken, else the mask.
+#[inline(always)]
+fn left_of(mask: u64, from: Square, taken: bool) -> u64
+    ensures { (n : ℕ) → n < 64 → is_in result n ≡ (is_in mask n && not (n == from && taken)) }
+{
+    if taken { without(mask, from) } else { mask }
+}
+
 // Takes the first of some steps: by its square, and then by its direction in the order north, east, south, west.
-fn take_first(steps: &mut AcceptedSteps) -> Option<(Square, Dir)>
+#[inline(always)]
+pub(crate) fn take_first(steps: &mut AcceptedSteps) -> Option<(Square, Dir)>
     ensures { IsFirstTaken steps.old result steps.new }
 {
     let Some(from) = first_square(steps.north | steps.east | steps.south | steps.west) else {
         return None;
     };
-    if has(steps.north, from) {
-        steps.north = without(steps.north, from);
-        return Some((from, Dir::North));
-    }
-    if has(steps.east, from) {
-        steps.east = without(steps.east, from);
-        return Some((from, Dir::East));
-    }
-    if has(steps.south, from) {
-        steps.south = without(steps.south, from);
-        return Some((from, Dir::South));
-    }
-    steps.west = without(steps.west, from);
-    Some((from, Dir::West))
+    let dir = first_direction(steps, from);
+    steps.north = left_of(steps.north, from, same_dir(Dir::North, dir));
+    steps.east = left_of(steps.east, from, same_dir(Dir::East, dir));
+    steps.south = left_of(steps.south, from, same_dir(Dir::South, dir));
+    steps.west = left_of(steps.west, from, same_dir(Dir::West, dir));
+    Some((from, dir))
 }
 
 // Takes the first of some steps that a state accepts, with its piece.
+#[inline(always)]
 fn take_step(state: &TurnState, steps: &mut AcceptedSteps) -> Option<Step>
     requires { AreAllAccepted state.now steps.old }
     ensures { IsStepTaken state.now steps.old result steps.new }
@@ -88,6 +124,7 @@ impl<'a> NextStates<'a> {
     }
 
     /// The next one, if one is left.
+    #[inline(always)]
     pub(crate) fn advance(&mut self) -> Option<(Step, TurnState)>
         ensures next { self.old ≡ option_to_list result ++ self.new }
         ensures end { IfNone result (self.old ≡ []) }
@@ -98,14 +135,15 @@ impl<'a> NextStates<'a> {
         Some((step, self.state.make(&step)))
     }
 
-    /// What the end of the turn answers after the next step, if one is left. The next state isn't made.
-    pub(crate) fn advance_end(&mut self) -> Option<Result<Position, TurnFault>>
-        ensures next { ends_of self.old ≡ option_to_list result ++ ends_of self.new }
+    /// The next step with what the end of the turn answers after it, if one is left. The next state isn't made.
+    #[inline(always)]
+    pub(crate) fn advance_last(&mut self) -> Option<(Step, Result<Position, TurnFault>)>
+        ensures next { last_of self.old ≡ option_to_list result ++ last_of self.new }
         ensures end { IfNone result (self.old ≡ []) }
     {
         let Some(step) = take_step(self.state, &mut self.steps) else {
             return None;
         };
-        Some(self.state.finish_after(&step))
+        Some((step, self.state.finish_after(&step)))
     }
 }

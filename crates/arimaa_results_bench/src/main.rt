@@ -2,28 +2,20 @@
 //! walk over all lists of steps that finds nothing. Each is made a number of times, and the least time is told.
 #![tactic(auto)]
 
-ghost use Rattle.std.specs.Prelude.{◌≡◌, ◌<◌, length, false};
+ghost use Rattle.std.specs.Prelude.{◌≡◌, ◌<◌, length};
 
 use arimaa_board::{Color, Position, read_board};
 use arimaa_history::Barred;
 use arimaa_region::Region;
-use arimaa_results::{Wanted, first_turn_where, results};
+use arimaa_results::{first_turn, results};
 use std::rt::Runtime;
 use std::time::{Duration, Instant};
 use std::{env, io};
 
+#[cfg(test)]
+mod tests;
+
 const USAGE: &str = "usage: arimaa_results_bench list|walk gold|silver BOARD [ROUNDS]";
-
-// Nothing is wanted.
-struct Nothing;
-
-impl Wanted for Nothing {
-    ghost passes = { λ wanted reached. false };
-
-    fn passes(&self, _reached: &Position) -> bool {
-        false
-    }
-}
 
 // Lists the results and gives their places back; how many there were.
 fn list(p: &Position, barred: &Barred, region: &mut Region) -> u32
@@ -58,7 +50,8 @@ fn time_lists(
     Ok((size, least))
 }
 
-// Whether anything was found, and the least time of some walks.
+// Whether anything was found, and the least time of some walks. What is looked for is the position itself, which no turn
+// brings about, since the other side is then to move.
 fn time_walks(
     rt: &(impl Runtime + AllocGlobal),
     p: &Position,
@@ -68,7 +61,7 @@ fn time_walks(
     let mut found = false;
     for _ in 0..rounds {
         let start = Instant::now(rt)?;
-        found = first_turn_where(p, &Nothing).is_some();
+        found = first_turn(p, p).is_some();
         least = least.min(start.elapsed(rt)?);
     }
     Ok((found, least))

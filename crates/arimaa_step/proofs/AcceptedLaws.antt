@@ -1,5 +1,5 @@
 -- The masks of what may move say which steps a state accepts.
-use Rattle.std.proofs.Common.{◌≡◌, ℕ, ◌<◌, ◌≤◌, ◌==◌, ◌&&◌, Bool, true, false, cond, Option, None, Some, refl, sym, ◌∙◌, ap, arith, eq-eqb}
+use Rattle.std.proofs.Common.{◌≡◌, ℕ, ◌<◌, ◌≤◌, ◌&&◌, Bool, true, false, cond, Option, None, Some, refl, sym, ◌∙◌, ap, arith, eq-eqb}
 use Rattle.std.specs.Prelude.{◌||◌, not, nat_le, is_some, is_none, is_ok}
 use Rattle.std.proofs.lemmas.Bool.Decides.{nat_tests}
 use Rattle.arimaa_board.specs.declared.piece.Color.{Color}
@@ -15,14 +15,14 @@ use Rattle.arimaa_board.specs.Piece.{piece_of, code_of}
 use Rattle.arimaa_board.specs.Square.{next_square}
 use Rattle.arimaa_board.specs.Board.{at, same_color, holds}
 use Rattle.arimaa_board.specs.Masks.{IsMaskOf, passes}
-use Rattle.arimaa_model.specs.Frozen.{beats, is_frozen, is_held, is_unfrozen}
-use Rattle.arimaa_model.specs.Moves.{target, is_free, fits, is_own, is_rabbit, is_back, goes_back, is_single, is_half, has_pusher, can_push, enters, is_pushable}
+use Rattle.arimaa_model.specs.Frozen.{beats, is_frozen, is_held}
+use Rattle.arimaa_model.specs.Moves.{is_free, fits, is_rabbit, is_back, goes_back, is_single, is_half, has_pusher, enters}
 use Rattle.arimaa_model.specs.Faults.{unless}
 use Rattle.arimaa_model.specs.Results.{step_of}
 use Rattle.arimaa_step.specs.declared.state.TurnState.{TurnState}
-use Rattle.arimaa_step.specs.Next.{could_push, completes_push, completes_pull, cuts_next, next_fault, next_answer}
+use Rattle.arimaa_step.specs.Next.{could_push, completes_push, completes_pull, cuts_next, next_answer}
 use Rattle.arimaa_step.specs.declared.accepted.AcceptedSteps.{AcceptedSteps}
-use Rattle.arimaa_step.specs.Accepted.{AreAccepted, accepts, accepts_content, may_go, may_be_pushed, is_left, may_push, may_be_pulled}
+use Rattle.arimaa_step.specs.Accepted.{AreAccepted, AreEnding, accepts, accepts_content, ends_by, ends_content, may_go, may_be_pushed, is_left, may_push, may_be_pulled}
 
 -- laws of tests
 pub and_true : (x : Bool) → (x && true) ≡ x
@@ -60,6 +60,16 @@ any_move false false a h u w pu pl e d = rw (e, d) refl
 any_move false true a h u w pu pl e d = rw (e, d) refl
 any_move true false a h u w pu pl e d = rw (e, d) (sym (or_false (u || w)))
 any_move true true a h u w pu pl e d = rw (e, d) (turned_or a h (u || w))
+
+any_end : (f c a u w pu pl : Bool) → pu ≡ (f && u) → pl ≡ (f && w) → (f && (c && a || (u || w))) ≡ (c && (f && a) || (pu || pl))
+any_end false false a u w pu pl e d = rw (e, d) refl
+any_end false true a u w pu pl e d = rw (e, d) refl
+any_end true c a u w pu pl e d = rw (e, d) refl
+
+absorbed : (x y : Bool) → ((x || y) && x) ≡ x
+absorbed true y = refl
+absorbed false true = refl
+absorbed false false = refl
 
 left_and : (f o z g : Bool) → (((f && o) && z) && g) ≡ (f && ((o && z) && g))
 left_and true o z g = refl
@@ -176,6 +186,44 @@ is_marked st dir n o =
     && (((may_go st n && not (is_back st.start.side dir && holds (piece_of st.start.side Rabbit) (at st.board n))) || may_be_pushed st n)
     || ((passes (is_left st.open_push) (next_square n dir) && may_push st st.open_push n) || (passes (is_left st.open_pull) (next_square n dir) && may_be_pulled st.board st.open_pull n)))
 
+-- what the masks say of a square from which a step ends a move, seen from what stands there
+abbrev pub is_ending : TurnState → Dir → ℕ → Option Piece → Bool
+is_ending st dir n o =
+    (is_some o && passes (λ m. not (is_some (at st.board m))) (next_square n dir))
+    && ((may_go st n && not (is_back st.start.side dir && holds (piece_of st.start.side Rabbit) (at st.board n)))
+    || ((passes (is_left st.open_push) (next_square n dir) && may_push st st.open_push n) || (passes (is_left st.open_pull) (next_square n dir) && may_be_pulled st.board st.open_pull n)))
+
+module _ (st : TurnState) (dir : Dir) (n : ℕ) (few : st.count < 4) where
+  ending_piece : (p : Piece) → at st.board n ≡ Some p → is_ending st dir n (Some p) ≡ ends_content st dir n (Some p)
+  ending_piece p e =
+      let side : Color = st.start.side in
+      let s : Step = step_of n dir p in
+      let free : Bool = is_free st.board (next_square n dir) in
+      let alone : Bool = (same_color p.color side && not (is_frozen st.board n)) && not (goes_back s) in
+      let going : (may_go st n && not (is_back side dir && holds (piece_of side Rabbit) (at st.board n))) ≡ (st.cut && alone) =
+      rw e (cut_and st.cut (same_color side p.color && not (is_held st.board n p)) (is_back side dir && holds (piece_of side Rabbit) (Some p)) ∙ ap (λ v. st.cut && v) (going_is side p.color p.kind dir (is_held st.board n p))) in
+      let pushes : Bool = passes (is_left st.open_push) (next_square n dir) && may_push st st.open_push n in
+      let pulls : Bool = passes (is_left st.open_pull) (next_square n dir) && may_be_pulled st.board st.open_pull n in
+      let push : Bool = completes_push st s st.open_push in
+      let pull : Bool = completes_pull st s st.open_pull in
+      let masks : is_ending st dir n (Some p) ≡ (free && (st.cut && alone || (pushes || pulls))) =
+      ap (λ v. v && ((may_go st n && not (is_back side dir && holds (piece_of side Rabbit) (at st.board n))) || (pushes || pulls))) (free_is st.board (next_square n dir))
+      ∙ ap (λ v. free && (v || (pushes || pulls))) going in
+      let cuts : cuts_next st s ≡ (st.cut && (free && alone) || (push || pull)) =
+      ap (λ v. st.cut && v || (push || pull)) (single_is st dir n p e) in
+      let ok : ends_content st dir n (Some p) ≡ cuts_next st s =
+      ap (λ v. v && cuts_next st s) (ok_is st s few) ∙ absorbed (cuts_next st s) (st.cut && is_half st.board side s) in
+      masks
+      ∙ (any_end free st.cut alone pushes pulls push pull (push_is st dir n p e st.open_push) (pull_is st dir n p e st.open_pull)
+      ∙ (sym cuts ∙ sym ok))
+
+  ending_content : (o : Option Piece) → at st.board n ≡ o → is_ending st dir n o ≡ ends_content st dir n o
+  ending_content None e = refl
+  ending_content (Some p) e = ending_piece p e
+
+  pub ending_marked : is_ending st dir n (at st.board n) ≡ ends_by st dir n
+  ending_marked = ending_content (at st.board n) refl
+
 module _ (st : TurnState) (dir : Dir) (n : ℕ) (few : st.count < 4) where
   marked_piece : (p : Piece) → at st.board n ≡ Some p → is_marked st dir n (Some p) ≡ is_ok (next_answer st (step_of n dir p))
   marked_piece p e =
@@ -216,6 +264,20 @@ full_content st dir n late (Some p) = rw late refl
 
 pub full_refuses : (st : TurnState) (dir : Dir) (n : ℕ) → 4 ≤ st.count → accepts st dir n ≡ false
 full_refuses st dir n full = let late : nat_le 4 st.count ≡ true = grind (arith, nat_tests) in full_content st dir n late (at st.board n)
+
+full_content_ends : (st : TurnState) (dir : Dir) (n : ℕ) → nat_le 4 st.count ≡ true → (o : Option Piece) → ends_content st dir n o ≡ false
+unfolding next_answer
+full_content_ends st dir n late None = refl
+full_content_ends st dir n late (Some p) = rw late refl
+
+pub full_never_ends : (st : TurnState) (dir : Dir) (n : ℕ) → 4 ≤ st.count → ends_by st dir n ≡ false
+full_never_ends st dir n full = let late : nat_le 4 st.count ≡ true = grind (arith, nat_tests) in full_content_ends st dir n late (at st.board n)
+
+pub ends_by_direction : (st : TurnState) (steps : AcceptedSteps) → IsMaskOf (ends_by st North) steps.north → IsMaskOf (ends_by st East) steps.east → IsMaskOf (ends_by st South) steps.south → IsMaskOf (ends_by st West) steps.west → AreEnding st steps
+ends_by_direction st steps n e s w North = n
+ends_by_direction st steps n e s w East = e
+ends_by_direction st steps n e s w South = s
+ends_by_direction st steps n e s w West = w
 
 pub by_direction : (st : TurnState) (steps : AcceptedSteps) → IsMaskOf (accepts st North) steps.north → IsMaskOf (accepts st East) steps.east → IsMaskOf (accepts st South) steps.south → IsMaskOf (accepts st West) steps.west → AreAccepted st steps
 by_direction st steps n e s w North = n

@@ -1,20 +1,23 @@
 -- What a state answers to a step, by the facts that the answer looks at.
 use Rattle.std.proofs.Common.{◌≡◌, ℕ, ◌&&◌, Bool, true, false, cond, Option, None, Some, Ok, Err, refl, sym, ◌∙◌, ap, ⊎_elim}
-use Rattle.std.specs.Prelude.{◌||◌, not, nat_le, is_ok}
+use Rattle.std.specs.Prelude.{◌||◌, not, nat_le, is_ok, is_some}
 use Rattle.std.proofs.lemmas.Bool.{or_cases, and_parts, true≢false}
-use Rattle.arimaa_board.specs.declared.piece.Color.{Color}
 use Rattle.arimaa_board.specs.declared.piece.Piece.{Piece}
 use Rattle.arimaa_board.specs.declared.board.Board.{Board}
 use Rattle.arimaa_board.specs.declared.position.Step.{Step}
-use Rattle.arimaa_board.specs.Board.{same_color}
+use Rattle.arimaa_board.specs.Board.{moved, settle}
 use Rattle.arimaa_model.specs.declared.fault.StepFault.TheVariants as fault
 use Rattle.arimaa_model.specs.Faults.{unless, rule_of}
 use Rattle.arimaa_model.specs.Marks.{removed_by}
-use Rattle.arimaa_model.specs.Moves.{fits, is_own, is_single, is_half}
+use Rattle.arimaa_model.specs.Moves.{target, is_free, fits, after, is_own, is_single, is_half}
 use Rattle.arimaa_model.proofs.Growing.{single_fits, half_fits}
 use Rattle.arimaa_step.specs.declared.state.TurnState.{TurnState}
 use Rattle.arimaa_step.specs.State.{trap_first}
 use Rattle.arimaa_step.specs.Next.{completes_push, completes_pull, goes_alone, begins_push, ends_move, cuts_next, next_state, next_answer}
+use Rattle.arimaa_step.specs.Accepted.{ends_content}
+use Rattle.arimaa_board.specs.declared.square.Dir.{Dir}
+use Rattle.arimaa_board.specs.Square.{next_square}
+use Rattle.arimaa_model.specs.Results.{step_of}
 
 fault_parts : {E V : Type 0} (late moves : Bool) (e f : E) (v : V) → is_ok (unless (cond late (Some e) (cond moves None (Some f))) v) ≡ true → (late ≡ false) × (moves ≡ true)
 fault_parts true moves e f v h = absurd (true≢false (sym h))
@@ -54,6 +57,20 @@ begins_from true true sg false e h off own other = refl
 begins_from true false sg true e h off own other = refl
 begins_from true false true false e h off own other = absurd (true≢false (sym (own refl)))
 begins_from true false false false e h off own other = absurd (no_move e h off)
+
+free_there : (b : Board) (t : Option ℕ) → is_free b t ≡ true → is_some t ≡ true
+free_there b None h = absurd (true≢false (sym h))
+free_there b (Some t) h = refl
+
+-- a step that fits enters a square
+pub fits_there : (b : Board) (s : Step) → fits b s ≡ true → is_some (target s) ≡ true
+unfolding fits
+fits_there b s h = free_there b (target s) (and_parts _ _ h).1
+
+-- the board after a step, by the square that it enters
+pub after_is : (b : Board) (s : Step) (to : ℕ) → target s ≡ Some to → after b s ≡ settle (moved b s.from to)
+unfolding after
+after_is b s to is = rw is refl
 
 module _ (st : TurnState) (s : Step) where
   -- whether a step is accepted after fewer than four
@@ -127,3 +144,9 @@ module _ (st : TurnState) (s : Step) where
 
   pub begins_is : is_ok (next_answer st s) ≡ true → ends_move st s ≡ false → (st.cut && not (is_own st.start.side s)) ≡ begins_push st s
   begins_is ok ends = begins_from st.cut (is_own st.start.side s) (is_single st.board st.start.side s) (is_half st.board st.start.side s) (ends_move st s) (ok_parts ok).1 ends single_own half_other
+
+-- a step that ends a move stays on the board
+pub ends_inside : (st : TurnState) (d : Dir) (n : ℕ) (o : Option Piece) → ends_content st d n o ≡ true → is_some (next_square n d) ≡ true
+ends_inside st d n None ends = absurd (true≢false (sym ends))
+ends_inside st d n (Some p) ends =
+    fits_there st.board (step_of n d p) (moves_fit st (step_of n d p) (ok_parts st (step_of n d p) (and_parts _ _ ends).0).1)

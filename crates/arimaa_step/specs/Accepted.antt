@@ -14,7 +14,7 @@ use Rattle.arimaa_model.specs.Results.{step_of}
 use Rattle.arimaa_step.specs.declared.state.TurnState.{TurnState}
 use Rattle.arimaa_step.specs.declared.accepted.AcceptedSteps.{AcceptedSteps}
 use Rattle.arimaa_step.specs.declared.accepted.Movers.{Movers}
-use Rattle.arimaa_step.specs.Next.{next_answer}
+use Rattle.arimaa_step.specs.Next.{next_answer, cuts_next}
 
 -- whether a state accepts the step of what stands on a square in a direction
 abbrev pub accepts_content : TurnState → Dir → ℕ → Option Piece → Bool
@@ -35,6 +35,19 @@ mask_towards a West = a.west
 -- in each direction the mask has the squares from which the state accepts a step
 abbrev pub AreAccepted : TurnState → AcceptedSteps → Type 0
 AreAccepted st steps = (d : Dir) → IsMaskOf (accepts st d) (mask_towards steps d)
+
+-- whether a state accepts the step of what stands on a square in a direction, and the steps are then whole moves
+abbrev pub ends_content : TurnState → Dir → ℕ → Option Piece → Bool
+ends_content st d n None = false
+ends_content st d n (Some p) = is_ok (next_answer st (step_of n d p)) && cuts_next st (step_of n d p)
+
+-- whether a state accepts the step of the piece on a square in a direction, and the steps are then whole moves
+abbrev pub ends_by : TurnState → Dir → ℕ → Bool
+ends_by st d n = ends_content st d n (at st.board n)
+
+-- in each direction the mask has the squares from which a step ends a move
+abbrev pub AreEnding : TurnState → AcceptedSteps → Type 0
+AreEnding st steps = (d : Dir) → IsMaskOf (ends_by st d) (mask_towards steps d)
 
 -- whether what stands on a square is a piece of the side to move that may make a single step
 abbrev pub may_go : TurnState → ℕ → Bool

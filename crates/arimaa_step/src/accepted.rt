@@ -5,7 +5,7 @@ ghost use Rattle.arimaa_board.specs.Piece.{piece_of};
 ghost use Rattle.arimaa_board.specs.Board.{at, holds};
 ghost use Rattle.arimaa_board.specs.Masks.{IsMaskOf};
 ghost use Rattle.arimaa_model.specs.Moves.{is_back};
-ghost use Rattle.arimaa_step.specs.Accepted.{accepts, mask_towards, AreAccepted, AreMovers, may_go, may_be_pushed, is_left, may_push, may_be_pulled};
+ghost use Rattle.arimaa_step.specs.Accepted.{accepts, ends_by, mask_towards, AreAccepted, AreEnding, AreMovers, may_go, may_be_pushed, is_left, may_push, may_be_pulled};
 
 use crate::state::TurnState;
 use arimaa_board::{Color, Dir, Piece, Square, entering, mask_of};
@@ -97,6 +97,21 @@ impl Movers {
     }
 }
 
+impl Movers {
+    // The squares from which a step in a direction ends a move, in a state with fewer than four steps: all that are
+    // accepted but those that only begin a push.
+    fn ending_towards(&self, side: Color, dir: Dir) -> u64
+        ensures { (st : TurnState) → st.start.side ≡ side → st.count < 4
+            → AreMovers st self.now → IsMaskOf (ends_by st dir) result }
+    {
+        let fitting = self.here & entering(!self.here, dir);
+        let going = self.going & !kept_back(self.rabbits, side, dir);
+        let pushing = entering(self.push_left, dir) & self.pushers;
+        let pulled = entering(self.pull_left, dir) & self.pulled;
+        fitting & (going | (pushing | pulled))
+    }
+}
+
 impl TurnState {
     // The pieces that could make the open push. On the start board this is looked up, since a trap of it may hold a
     // piece without a friend; later the first half of a push never freezes or frees the pusher.
@@ -168,6 +183,24 @@ impl TurnState {
             east: movers.towards(side, Dir::East),
             south: movers.towards(side, Dir::South),
             west: movers.towards(side, Dir::West),
+        }
+    }
+
+    /// The steps that the state accepts after which its steps can be cut into whole moves: the accepted ones but those
+    /// that only begin a push.
+    pub fn ending(&self) -> AcceptedSteps
+        ensures { AreEnding self.now result }
+    {
+        if self.count >= 4 {
+            return AcceptedSteps::NONE;
+        }
+        let movers = self.movers();
+        let side = self.start.side;
+        AcceptedSteps {
+            north: movers.ending_towards(side, Dir::North),
+            east: movers.ending_towards(side, Dir::East),
+            south: movers.ending_towards(side, Dir::South),
+            west: movers.ending_towards(side, Dir::West),
         }
     }
 }

@@ -1,21 +1,18 @@
-use Rattle.std.proofs.Common.{◌≡◌, length, Result}
+use Rattle.std.proofs.Common.{◌≡◌, length}
 use Rattle.std.specs.List.{flat_map}
-use Rattle.arimaa_board.specs.declared.position.Position.{Position}
-use Rattle.arimaa_model.specs.declared.fault.TurnFault.{TurnFault}
 use Rattle.arimaa_region.specs.Same.{same_position}
 use Rattle.arimaa_results.specs.Ahead.{brings, given_by}
-use Rattle.arimaa_results.specs.NextStates.{ends_of}
 use Rattle.arimaa_results.proofs.Adding.{Leads}
 use Rattle.arimaa_results.proofs.filling.fill_last.Given as goal
 
 abbrev pub decreases-loop-end : goal.decreases-loop-end
-decreases-loop-end l = length (ends_of l.states)
+decreases-loop-end l = length l.ends
 
 -- what the ends after the steps that are left give leads to all
 abbrev pub invariant-loop-end : goal.invariant-loop-end
 invariant-loop-end l = record {
   filled : Leads same_position l.fn.region.room l.region.room l.fn.region.segments l.region.segments
-      (flat_map (given_by l.barred) (ends_of l.states))
+      (flat_map (given_by l.barred) l.ends)
       (brings l.barred 1 l.state);
   work : l.region.work ≡ l.fn.region.work;
 }

@@ -1,4 +1,4 @@
-use Rattle.std.proofs.Common.{◌≡◌, sym, ◌∙◌}
+use Rattle.std.proofs.Common.{sym, ◌∙◌}
 use Rattle.arimaa_results.proofs.next_states.NextStates.advance.Goals as goal
 
 pub returns-in_default : goal.returns-in_default

@@ -1,4 +1,4 @@
-use Rattle.arimaa_results.proofs.StatePairs.{all_pairs, all_accepted}
+use Rattle.arimaa_results.proofs.StatePairs.{all_pairs}
 use Rattle.arimaa_results.proofs.next_states.NextStates.of.Goals as goal
 
 pub returns : goal.returns

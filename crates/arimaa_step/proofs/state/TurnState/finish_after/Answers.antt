@@ -3,3 +3,6 @@ use Rattle.arimaa_step.proofs.state.TurnState.finish_after.Goals as goal
 
 pub ends_move-ends-requires : goal.ends_move-ends-requires
 ends_move-ends-requires c = moves_fit c.args.self.now c.args.step.now (ok_parts c.args.self.now c.args.step.now c.requires).1
+
+pub board_after-board-requires : goal.board_after-board-requires
+board_after-board-requires c = moves_fit c.args.self.now c.args.step.now (ok_parts c.args.self.now c.args.step.now c.requires).1

@@ -1,4 +1,4 @@
-use Rattle.std.proofs.Common.{◌≡◌, ◌∙◌, sym, ap, false, true, ℕ, ◌<◌, arith, Err}
+use Rattle.std.proofs.Common.{◌≡◌, ◌∙◌, sym, ap, false, true, arith, Err}
 use Rattle.std.specs.Prelude.{nat_le}
 use Rattle.std.proofs.lemmas.Bool.Decides.{nat_tests}
 use Rattle.arimaa_step.proofs.AnswerLaws.{fifth_answer, unfit_answer}
