@@ -1,0 +1,92 @@
+-- The masks of the steps that commute with a step.
+use Rattle.std.proofs.Common.{◌≡◌, ℕ, ◌+◌, ◌-◌, ◌*◌, ◌%◌, ◌^◌, ◌<◌, ◌≤◌, ◌==◌, ◌&&◌, Bool, true, false, Option, None, Some, refl, sym, ◌∙◌, ap, ⊎_elim, arith, bit_and, bit_or, w64, ne_eqb, eq-eqb}
+use Rattle.std.specs.Prelude.{◌||◌, not, nat_lt}
+use Rattle.std.specs.Int.{bit_at, bit_not}
+use Rattle.std.proofs.lemmas.Nat.Bits.{bit_at_ones, bit_at_ones_above}
+use Rattle.std.proofs.lemmas.Bool.{cases_lt, cases_eq, lt-ltb, le-ltb}
+use Rattle.arimaa_board.specs.declared.piece.Piece.{Piece}
+use Rattle.arimaa_board.specs.declared.square.Dir.{Dir}
+use Rattle.arimaa_board.specs.declared.square.Dir.TheVariants.{North, East, South, West}
+use Rattle.arimaa_step.specs.declared.commuting.EarlierSteps.{EarlierSteps}
+use Rattle.arimaa_step.specs.declared.accepted.AcceptedSteps.{AcceptedSteps}
+use Rattle.arimaa_step.specs.declared.state.TurnState.{TurnState}
+use Rattle.arimaa_step.specs.Accepted.{accepts}
+use Rattle.arimaa_board.specs.declared.position.Step.{Step}
+use Rattle.arimaa_board.specs.Square.{next_square, is_trap}
+use Rattle.arimaa_board.specs.Masks.{bit_of, IsMaskOf, passes, is_beside}
+use Rattle.arimaa_model.specs.Moves.{target, enters}
+use Rattle.arimaa_model.specs.Results.{step_of}
+use Rattle.arimaa_board.proofs.Beside.{upto, upto_all}
+use Rattle.arimaa_board.proofs.MaskLaws.{and_mask, or_mask, not_mask, like_mask}
+use Rattle.std.proofs.lemmas.Bool.{eqb-true}
+use Rattle.arimaa_step.specs.Commuting.{is_of, is_close, is_trap_of, in_zone, commutes, commutes_before, AreEarlier, AreOthers}
+
+-- the ones below a place
+pub ones_before : (k : ℕ) → IsMaskOf (λ n. nat_lt n k) (2 ^ k - 1)
+ones_before k n small =
+    ⊎_elim
+    (λ (low : n < k). rw (lt-ltb n k low) (bit_at_ones k n low))
+    (λ from. rw (le-ltb n k from) (bit_at_ones_above k n from))
+    (cases_lt n k)
+
+-- a test of equality takes its numbers in any order
+turned_eq : (x y : ℕ) → (x == y) ≡ (y == x)
+turned_eq x y =
+    ⊎_elim (λ (e : x ≡ y). eq-eqb x y e ∙ sym (eq-eqb y x (sym e))) (λ apart. ne_eqb x y apart ∙ sym (ne_eqb y x (λ e. apart (sym e)))) (cases_eq x y)
+
+-- the four traps
+pub traps_mask : IsMaskOf is_trap 39582420959232
+traps_mask n small = eqb-true _ _ (upto_all (λ i. bit_at 39582420959232 i == bit_of (is_trap i)) 64 refl n small)
+
+-- the mask of the squares close to a step
+pub close_mask : (s : Step) (own beside : ℕ) → IsMaskOf (is_of s) own → IsMaskOf (is_beside (is_of s)) beside → IsMaskOf (is_close s) (bit_or own beside)
+unfolding is_close
+close_mask s own beside is_own is_near = or_mask (is_of s) (is_beside (is_of s)) own beside is_own is_near
+
+-- the mask of the traps on which it may take a piece off
+pub trap_mask : (s : Step) (close : ℕ) → IsMaskOf (is_close s) close → IsMaskOf (is_trap_of s) (bit_and close 39582420959232)
+trap_mask s close is = like_mask (λ n. is_close s n && is_trap n) (is_trap_of s) _ (λ n _. turned (is_close s n) (is_trap n)) (and_mask (is_close s) is_trap close 39582420959232 is traps_mask) where
+  turned : (x y : Bool) → (x && y) ≡ (y && x)
+  turned true true = refl
+  turned true false = refl
+  turned false true = refl
+  turned false false = refl
+
+-- the mask of the zone of a step
+pub zone_mask : (s : Step) (close beside : ℕ) → IsMaskOf (is_close s) close → IsMaskOf (is_beside (is_trap_of s)) beside → IsMaskOf (in_zone s) (bit_or close beside)
+unfolding in_zone
+zone_mask s close beside is_near is_beside_traps = or_mask (is_close s) (is_beside (is_trap_of s)) close beside is_near is_beside_traps
+
+-- the mask of the squares of a step that stays on the board
+pub two_squares : (s : Step) (to left entered : ℕ) → target s ≡ Some to → IsMaskOf (λ n. n == s.from) left → IsMaskOf (λ n. n == to) entered → IsMaskOf (is_of s) (bit_or left entered)
+two_squares s to left entered is is_left is_entered =
+    like_mask (λ n. n == s.from || n == to) (is_of s) _ (λ n _. ap (λ v. n == s.from || v) (turned_eq n to ∙ sym (ap (enters n) is)))
+    (or_mask (λ n. n == s.from) (λ n. n == to) left entered is_left is_entered)
+
+-- outside the zone of a step, and before it
+pub commutes_mask : (s : Step) (d : Dir) (p : Piece) (mask : ℕ) → IsMaskOf (λ n. (not (in_zone s n) && passes (λ m. not (in_zone s m)) (next_square n d)) && nat_lt n s.from) mask → IsMaskOf (λ n. commutes_before s (step_of n d p)) mask
+unfolding commutes
+commutes_mask s d p mask h = h
+
+-- the masks of the four directions
+pub by_direction : (s : Step) (e : EarlierSteps) → ((p : Piece) → IsMaskOf (λ n. commutes_before s (step_of n North p)) e.north) → ((p : Piece) → IsMaskOf (λ n. commutes_before s (step_of n East p)) e.east) → ((p : Piece) → IsMaskOf (λ n. commutes_before s (step_of n South p)) e.south) → ((p : Piece) → IsMaskOf (λ n. commutes_before s (step_of n West p)) e.west) → AreEarlier s e
+by_direction s e n ea so w North = n
+by_direction s e n ea so w East = ea
+by_direction s e n ea so w South = so
+by_direction s e n ea so w West = w
+
+-- the accepted steps in a direction but for the earlier ones
+pub others_mask : (st : TurnState) (s : Step) (d : Dir) (p : Piece) (steps earlier : ℕ) → earlier < 2 ^ 64 → IsMaskOf (accepts st d) steps → IsMaskOf (λ n. commutes_before s (step_of n d p)) earlier → IsMaskOf (λ n. accepts st d n && not (commutes_before s (step_of n d p))) (bit_and steps (bit_not w64 earlier))
+others_mask st s d p steps earlier fits is_ok_there is_earlier =
+    and_mask (accepts st d) (λ n. not (commutes_before s (step_of n d p))) steps _ is_ok_there (not_mask (λ n. commutes_before s (step_of n d p)) earlier fits is_earlier)
+
+pub others_by_direction : (st : TurnState) (s : Step) (a : AcceptedSteps)
+    → ((p : Piece) → IsMaskOf (λ n. accepts st North n && not (commutes_before s (step_of n North p))) a.north)
+    → ((p : Piece) → IsMaskOf (λ n. accepts st East n && not (commutes_before s (step_of n East p))) a.east)
+    → ((p : Piece) → IsMaskOf (λ n. accepts st South n && not (commutes_before s (step_of n South p))) a.south)
+    → ((p : Piece) → IsMaskOf (λ n. accepts st West n && not (commutes_before s (step_of n West p))) a.west)
+    → AreOthers st s a
+others_by_direction st s a n ea so w North = n
+others_by_direction st s a n ea so w East = ea
+others_by_direction st s a n ea so w South = so
+others_by_direction st s a n ea so w West = w

@@ -1,0 +1,100 @@
+//! Single steps that commute: two that may be made in either order.
+ghost use Rattle.std.specs.Prelude.{◌≡◌, ◌<◌, ℕ, Bool, ◌&&◌, not, nat_lt};
+ghost use Rattle.arimaa_board.specs.Masks.{IsMaskOf, passes};
+ghost use Rattle.arimaa_board.specs.Square.{next_square};
+ghost use Rattle.arimaa_board.specs.declared.position.Step.{Step};
+ghost use Rattle.arimaa_step.specs.declared.state.TurnState.{TurnState};
+ghost use Rattle.arimaa_step.specs.Accepted.{AreAccepted};
+ghost use Rattle.arimaa_step.specs.Commuting.{is_of, is_close, is_trap_of, in_zone, earlier_towards, AreEarlier, AreOthers, StepsCommute, EndsCommute};
+
+use crate::accepted::AcceptedSteps;
+use arimaa_board::{Dir, Square, Step, entering, mask_of, neighbours};
+
+/// The steps that commute with a step and come before it in the order of steps: one mask a
+/// direction, with bit n for a step from square n.
+#[derive(Clone, Copy, Debug, PartialEq, Eq)]
+pub struct EarlierSteps {
+    /// The squares from which a step goes north.
+    pub north: u64,
+    /// The squares from which a step goes east.
+    pub east: u64,
+    /// The squares from which a step goes south.
+    pub south: u64,
+    /// The squares from which a step goes west.
+    pub west: u64,
+}
+
+// The four traps.
+const TRAPS: u64 = 0x0000_2400_0024_0000;
+
+// The squares that a step leaves and enters.
+fn squares_of(step: &Step) -> u64
+    ensures { IsMaskOf (is_of step.now) result }
+{
+    let left = mask_of(step.from);
+    match step.from.step(step.dir) {
+        None => left,
+        Some(to) => left | mask_of(to),
+    }
+}
+
+// The zone of a step: its squares, those beside them, and those beside a trap that is one of these.
+fn zone_of(step: &Step) -> u64
+    ensures { IsMaskOf (in_zone step.now) result }
+{
+    let own = squares_of(step);
+    let close = own | neighbours(own);
+    close | neighbours(close & TRAPS)
+}
+
+// The squares before a square.
+fn squares_before(square: Square) -> u64
+    ensures { IsMaskOf (λ n. nat_lt n square) result }
+{
+    (1 << square.number()) - 1
+}
+
+// The squares of a mask from which a step in a direction stays in the mask, those below a square.
+fn below(mask: u64, square: Square, dir: Dir) -> u64
+    ensures { (test : ℕ → Bool) → IsMaskOf test mask
+        → IsMaskOf (λ n. (test n && passes test (next_square n dir)) && nat_lt n square) result }
+{
+    mask & entering(mask, dir) & squares_before(square)
+}
+
+impl EarlierSteps {
+    /// The steps that commute with a step and come before it. A step commutes with it where the
+    /// squares that it leaves and enters are none of those of the step, nor beside them, nor
+    /// beside a trap that is one of these.
+    pub fn commuting_with(step: &Step) -> EarlierSteps
+        ensures { AreEarlier step.now result }
+    {
+        let outside = !zone_of(step);
+        EarlierSteps {
+            north: below(outside, step.from, Dir::North),
+            east: below(outside, step.from, Dir::East),
+            south: below(outside, step.from, Dir::South),
+            west: below(outside, step.from, Dir::West),
+        }
+    }
+
+    /// The steps that a state accepts, but for these.
+    pub fn left_out_of(&self, steps: &AcceptedSteps) -> AcceptedSteps
+        ensures { (st : TurnState) (s : Step) → AreAccepted st steps.now → AreEarlier s self.now
+            → AreOthers st s result }
+    {
+        AcceptedSteps {
+            north: steps.north & !self.north,
+            east: steps.east & !self.east,
+            south: steps.south & !self.south,
+            west: steps.west & !self.west,
+        }
+    }
+}
+
+/// The order of single steps that commute doesn't matter: on a board on which no trap is due, and
+/// at the end of a turn.
+pub fn steps_commute()
+    ensures steps { StepsCommute }
+    ensures ends { EndsCommute }
+{}
