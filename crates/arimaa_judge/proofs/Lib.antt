@@ -1,3 +1,4 @@
 pub mod TurnLaws
 pub mod Accepting
 pub mod JudgedLines
+pub mod RecordReading

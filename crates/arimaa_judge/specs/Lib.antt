@@ -2,5 +2,7 @@ pub mod RecordState
 pub mod RecordStateInvariant
 pub mod Rules
 pub mod Judged
+pub mod Progress
+pub mod Stop
 pub mod Texts
 pub mod Agreement

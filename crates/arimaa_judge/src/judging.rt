@@ -1,12 +1,17 @@
 //! The judge.
-ghost use Rattle.std.specs.Prelude.{IfOk};
+ghost use Rattle.std.specs.Prelude.{◌≡◌, ◌≤◌, ◌<◌, ℕ, List, [], IfOk, IfSome, IsErrOf, OnErr, OnOk, length, option_map};
+ghost use Rattle.std.specs.Io.KnownBytes.{prepend_known};
+ghost use Rattle.arimaa_outside.specs.Faults.{HasRisen};
+ghost use Rattle.arimaa_outside.specs.declared.source.TheConstants.{INPUT_LIMIT};
 ghost use Rattle.arimaa_judge.specs.Judged.{IsJudged, HasFitBoards, HasLawfulTurns, HasEnding};
 
-use crate::record_state::RecordState;
+use crate::progress::Progress;
 use crate::rule::Rule;
+use crate::stop::JudgeStop;
 use arimaa_history::History;
 use arimaa_model::Ending;
-use arimaa_record::{Label, first_line};
+use arimaa_outside::Source;
+use arimaa_record::{Label, LineReader, first_line};
 use std::alloc::{AllocError, Global};
 
 /// What a record is.
@@ -44,19 +49,55 @@ pub fn judge(alloc: Global, bytes: &[u8]) -> Result<Judged, AllocError>
     ensures lawful { IfOk result HasLawfulTurns }
     ensures ended { IfOk result HasEnding }
 {
-    let mut state = RecordState::before_lines();
-    let mut number: u64 = 0;
+    let mut progress = Progress::before_lines();
     let mut rest = bytes;
     'lines: while let Some((line, after)) = first_line(rest) {
-        number += 1;
-        if let Some(rule) = state.take_line(alloc, line)? {
-            return Ok(Judged::Bad {
-                line: number,
-                label: state.due(),
-                rule,
-            });
+        progress.take_line(alloc, line)?;
+        if progress.is_bad() {
+            return Ok(progress.judged(alloc));
         }
         rest = after;
     }
-    Ok(state.judged(alloc))
+    Ok(progress.judged(alloc))
+}
+
+/// Judges a record that is read from a source line by line, to its end. So it is held in the memory
+/// of its history and of one line.
+///
+/// After the first bad line the rest is read and counted too, and says no more: a read that fails
+/// there, or an input that is too long, is answered in place of the bad line.
+///
+/// # Errors
+///
+/// `Fault` where a read failed, `TooLong` once more than `INPUT_LIMIT` bytes came, `Memory` where
+/// there is no room for the history, a buffer or a line. What was taken before an error is lost.
+pub fn judge_from<I: Source>(alloc: Global, input: &mut I) -> Result<Judged, JudgeStop>
+    ensures judged { IfOk result (λ judged. IfSome (I.remaining input.old)
+        (λ bytes. IsJudged bytes judged)) }
+    ensures end { OnOk result (I.remaining input.new
+        ≡ option_map (λ _. []) (I.remaining input.old)) }
+    ensures limit { OnOk result (IfSome (I.remaining input.old)
+        (λ bytes. length bytes ≤ INPUT_LIMIT)) }
+    ensures fit { IfOk result HasFitBoards }
+    ensures lawful { IfOk result HasLawfulTurns }
+    ensures ended { IfOk result HasEnding }
+
+    ensures too_long { IsErrOf result JudgeStop.TooLong
+        → IfSome (I.remaining input.old) (λ bytes. INPUT_LIMIT < length bytes) }
+    ensures fault { IsErrOf result JudgeStop.Fault
+        → HasRisen (I.faults input.old) (I.faults input.new) }
+    ensures lost { OnErr result ((lost : List ℕ)
+        × (I.remaining input.old ≡ prepend_known lost (I.remaining input.new))) }
+
+    // No answer but `Fault` comes after a read that failed.
+    ensures sound { ¬ IsErrOf result JudgeStop.Fault
+        → I.faults input.new ≡ I.faults input.old }
+    ensures never_falls { I.faults input.old ≤ I.faults input.new }
+{
+    let mut reader = LineReader::new(alloc)?;
+    let mut progress = Progress::before_lines();
+    'lines: while let Some(line) = reader.next(input)? {
+        progress.take_line(alloc, line)?;
+    }
+    Ok(progress.judged(alloc))
 }

@@ -7,14 +7,20 @@
 mod game_fault;
 mod judging;
 mod laws;
+mod progress;
 mod record_state;
 mod rule;
+mod stop;
 mod text;
 
 pub use arimaa_history::History;
 pub use arimaa_model::Ending;
 pub use arimaa_record::Label;
-pub use judging::{Judged, judge};
+pub use judging::{Judged, judge, judge_from};
 pub use laws::{bad_lines_are_there, judgements_agree};
 pub use rule::Rule;
+pub use stop::JudgeStop;
 pub use text::{bad_text, lawful_text, push_state};
+
+#[cfg(test)]
+mod tests;

@@ -1,5 +1,7 @@
 pub mod LabelForms
 pub mod LineLaws
+pub mod LineGathering
+pub mod LineAnswers
 pub mod LabelLaws
 pub mod FormLaws
 pub mod ReaderLaws

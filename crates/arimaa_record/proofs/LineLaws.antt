@@ -30,7 +30,7 @@ ended_first bytes less =
     ∙ lines_of_pieces-cons (before_first is_feed bytes) (slice_split is_feed (after_first is_feed bytes)) (omega (arith, length-slice_split is_feed (after_first is_feed bytes)))
 
 -- where there is none, all is one line
-only_line : (bytes : List ℕ) → 0 < length bytes → All (λ b. is_feed b ≡ false) bytes → lines_of bytes ≡ strip_carriage_return bytes ∷ []
+pub only_line : (bytes : List ℕ) → 0 < length bytes → All (λ b. is_feed b ≡ false) bytes → lines_of bytes ≡ strip_carriage_return bytes ∷ []
 unfolding lines_of
 only_line bytes some all =
     ap lines_of_pieces (slice_split_none is_feed bytes all)

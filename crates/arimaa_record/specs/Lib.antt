@@ -1,5 +1,6 @@
 pub mod Label
 pub mod Lines
+pub mod LineReader
 pub mod Grammar
 pub mod Written
 pub mod Record

@@ -5,7 +5,7 @@ ghost use Rattle.std.specs.Str.Lines.{strip_carriage_return};
 ghost use Rattle.arimaa_record.specs.Lines.{is_feed, lines_of};
 
 // How many bytes stand before the first line feed.
-fn line_len(bytes: &[u8]) -> usize
+pub(crate) fn line_len(bytes: &[u8]) -> usize
     ensures value { result ≡ position_or_len is_feed bytes.now }
     ensures fits { result ≤ length bytes.now }
 {
@@ -18,7 +18,7 @@ fn line_len(bytes: &[u8]) -> usize
 }
 
 // The bytes without one carriage return at their end.
-fn without_return(bytes: &[u8]) -> &[u8]
+pub(crate) fn without_return(bytes: &[u8]) -> &[u8]
     ensures { result.now ≡ strip_carriage_return bytes.now }
 {
     let size = bytes.len();

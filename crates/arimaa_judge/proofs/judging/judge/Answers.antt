@@ -1,7 +1,9 @@
-use Rattle.std.proofs.Common.{◌+◌}
-use Rattle.arimaa_judge.proofs.JudgedLines.{no_line}
+use Rattle.std.proofs.Common.{ap, ◌∙◌}
+use Rattle.arimaa_record.specs.Lines.{lines_of}
+use Rattle.arimaa_record.proofs.LineLaws.{no_lines}
 use Rattle.arimaa_judge.proofs.judging.judge.Goals as goal
 
 pub returns-clause-judged : goal.returns-clause-judged
 returns-clause-judged c =
-    c.lines.invariant.judged c.judged.result (no_line c.lines.state (c.lines.number + 1) c.lines.rest.now c.judged.result c.in_default.ensures.none c.judged.ensures.value)
+    let none = ap lines_of c.in_default.ensures.none ∙ no_lines in
+    c.lines.invariant.judged c.judged-2.result (rw none c.judged-2.ensures.leads)
