@@ -1,4 +1,5 @@
 -- The commands: the words of each, what it reads, the calls that serve it, and what it answers.
+pub mod Check
 pub mod Control
 pub mod Judge
 pub mod Make
@@ -24,6 +25,7 @@ use Rattle.arimaa_cli.specs.declared.record.Game.{Game}
 use Rattle.arimaa_cli.specs.Answer.{Found}
 use Rattle.arimaa_cli.specs.Options.{AreOptions}
 use Rattle.arimaa_cli.specs.Records.{IsRecordAnswer}
+use Rattle.arimaa_cli.specs.Commands.Check.{IsCheckAnswer, IsRoomGiven, room_words}
 use Rattle.arimaa_cli.specs.Commands.Control.{IsControlAnswer}
 use Rattle.arimaa_cli.specs.Commands.Judge.{IsJudgeAnswer}
 use Rattle.arimaa_cli.specs.Commands.Make.{IsMakeAnswer}
@@ -53,6 +55,8 @@ abbrev pub HaveForm : List (List ℕ) → Command → Type 0
 HaveForm words (command.About question.Judge) = words ≡ codes "judge" ∷ []
 HaveForm words (command.About question.Show) = words ≡ codes "show" ∷ []
 HaveForm words (command.Prove asked) = AreProveWords words asked
+HaveForm words (command.Check asked) =
+    words ≡ codes "check" ∷ side_word asked.attacker ∷ decimal asked.depth ∷ room_words asked.room
 HaveForm words (command.Control text) = words ≡ codes "control" ∷ text ∷ []
 HaveForm words (command.Make asked) =
     words ≡ codes "make" ∷ decimal asked.number ∷ decimal asked.turns ∷ []
@@ -61,6 +65,7 @@ HaveForm words (command.Make asked) =
 abbrev pub IsInRange : Command → Type 0
 IsInRange (command.About q) = Unit {0}
 IsInRange (command.Prove asked) = (asked.depth ≤ MOST_TURNS) × AreWithinLimits asked.settings
+IsInRange (command.Check asked) = (asked.depth ≤ MOST_TURNS) × IsRoomGiven asked.room
 IsInRange (command.Control text) = IsTextWord text
 IsInRange (command.Make asked) = (asked.number ≤ 2 ^ 64 - 1) × (asked.turns ≤ MOST_MADE)
 
@@ -75,6 +80,7 @@ pub record AreWords (words : List (List ℕ)) (c : Command) : Type 0 where
 abbrev pub is_prove : Command → Bool
 is_prove (command.About q) = false
 is_prove (command.Prove asked) = true
+is_prove (command.Check asked) = false
 is_prove (command.Control text) = false
 is_prove (command.Make asked) = false
 
@@ -97,8 +103,17 @@ AsksNothing call words = (c : Command) → Asks call words c → ⊥
 abbrev pub Reads : Command → Type 0
 Reads (command.About q) = Unit {0}
 Reads (command.Prove asked) = Unit {0}
+Reads (command.Check asked) = Unit {0}
 Reads (command.Control text) = ⊥
 Reads (command.Make asked) = ⊥
+
+-- a command may stop short, since its budget or its room is limited
+abbrev pub IsLimited : Command → Type 0
+IsLimited (command.About q) = ⊥
+IsLimited (command.Prove asked) = Unit {0}
+IsLimited (command.Check asked) = Unit {0}
+IsLimited (command.Control text) = ⊥
+IsLimited (command.Make asked) = ⊥
 
 -- ---- answers
 
@@ -111,6 +126,7 @@ IsGameAnswer question.Show game a = IsShowAnswer game a
 abbrev pub IsAnswerOf : List ℕ → Command → Answer → Type 0
 IsAnswerOf given (command.About q) a = IsRecordAnswer given (IsGameAnswer q) a
 IsAnswerOf given (command.Prove asked) a = IsRecordAnswer given (IsProveAnswer asked) a
+IsAnswerOf given (command.Check asked) a = IsCheckAnswer asked given a
 IsAnswerOf given (command.Control text) a = IsControlAnswer text a
 IsAnswerOf given (command.Make asked) a = IsMakeAnswer asked a
 

@@ -1,16 +1,20 @@
 //! The words that ask for a command.
-ghost use Rattle.std.specs.Prelude.{◌≡◌, ◌<◌, ◌^◌, ◌≤◌, ◌↔◌, ℕ, List, IfNone, IfSome, IsTrue, Some};
+ghost use Rattle.std.specs.Prelude.{◌≡◌, ◌<◌, ◌^◌, ◌≤◌, ◌↔◌, ℕ, List, IfNone, IfSome, IsTrue, Option, Some, codes};
 ghost use Rattle.std.specs.Fmt.{decimal};
 ghost use Rattle.arimaa_board.specs.declared.piece.Color.{Color as Side};
 ghost use Rattle.arimaa_judge.specs.Texts.{side_word};
 ghost use Rattle.arimaa_cli.specs.declared.commands.prove.Asked.{Asked as Inquiry};
 ghost use Rattle.arimaa_cli.specs.declared.commands.Command.{Command as Order};
+ghost use Rattle.arimaa_cli.specs.declared.commands.check.Checking.{Checking as Inspection};
 ghost use Rattle.arimaa_cli.specs.declared.commands.make.Making.{Making as Wish};
 ghost use Rattle.arimaa_cli.specs.declared.commands.Command.TheVariants as order;
 ghost use Rattle.arimaa_cli.specs.declared.commands.Question.TheVariants as question;
 ghost use Rattle.arimaa_cli.specs.Commands.{AreWords, IsNamed, IsTextWord};
+ghost use Rattle.arimaa_cli.specs.Commands.Check.{EndWithRoom, IsRoom};
 
-use crate::commands::{Asked, Command, MOST_MADE, MOST_TURNS, Making, Question};
+use crate::commands::{
+    Asked, Checking, Command, MOST_MADE, MOST_ROOM, MOST_TURNS, Making, Question,
+};
 use crate::options::read_options;
 use arimaa_board::Color;
 use arimaa_outside::CommandWords;
@@ -100,6 +104,53 @@ fn read_prove(words: &CommandWords) -> Option<Asked>
     })
 }
 
+// The room that an option gives: its name and a number of positions.
+fn read_room(name: &str, number: &str) -> Option<u32>
+    ensures { (n : ℕ) → (result ≡ Some n)
+        ↔ (IsRoom n × (name.now ≡ codes "--room") × (number.now ≡ decimal n)) }
+{
+    if name != "--room" {
+        return None;
+    }
+    match read_up_to(number, u64::from(MOST_ROOM)) {
+        None => None,
+        Some(0) => None,
+        Some(room) => Some(room as u32),
+    }
+}
+
+// The room that the words after the first three give `check`, if there are any.
+fn read_last_room(words: &CommandWords) -> Option<Option<u32>>
+    ensures form { IfSome result (λ room. EndWithRoom words.now room) }
+    ensures none { IfNone result ((room : Option ℕ) → ¬ EndWithRoom words.now room) }
+{
+    if is_named(words, "check", 3) {
+        return Some(None);
+    }
+    if !is_named(words, "check", 5) {
+        return None;
+    }
+    match read_room(words.get(3)?, words.get(4)?) {
+        None => None,
+        Some(room) => Some(Some(room)),
+    }
+}
+
+// What the words ask of `check`: the name, a side, a number of turns, and maybe a room.
+fn read_check(words: &CommandWords) -> Option<Checking>
+    ensures form { IfSome result (λ asked. AreWords words.now (order.Check asked)) }
+    ensures none { IfNone result ((asked : Inspection) → ¬ AreWords words.now (order.Check asked)) }
+{
+    let room = read_last_room(words)?;
+    let attacker = read_side(words.get(1)?)?;
+    let depth = read_up_to(words.get(2)?, u64::from(MOST_TURNS))? as u8;
+    Some(Checking {
+        attacker,
+        depth,
+        room,
+    })
+}
+
 // What the words ask of `make`: the name, a number and a number of turns.
 fn read_make(words: &CommandWords) -> Option<Making>
     ensures form { IfSome result (λ asked. AreWords words.now (order.Make asked)) }
@@ -144,6 +195,9 @@ pub fn read_command(words: &CommandWords) -> Option<Command<'_>>
     }
     if let Some(asked) = read_prove(words) {
         return Some(Command::Prove(asked));
+    }
+    if let Some(asked) = read_check(words) {
+        return Some(Command::Check(asked));
     }
     if let Some(text) = read_control(words) {
         return Some(Command::Control(text));

@@ -12,3 +12,5 @@ mod records;
 mod rows;
 #[cfg(test)]
 mod runs;
+#[cfg(test)]
+mod strategies;

@@ -3,9 +3,10 @@
 //! What is expected was worked out by a plain program that is no part of this repository: it lists
 //! the next positions of a position step by step, asks the definition with no table, counts every
 //! question, and names the first one that is above the budget or the room. Each question stands
-//! beside the same one with the colours changed.
-use crate::runs::{Outside, Row, check, run};
+//! beside the same one with the colours changed. What `prove` answers with yes is handed to `check`.
+use crate::runs::{Outside, Row, check, refuse_all, run};
 use arimaa_outside::Status;
+use std::alloc::{AllocError, Global};
 use std::process::Abort;
 use std::test::Fail;
 use std::thread::Threads;
@@ -551,6 +552,52 @@ fn lines(text: &[u8]) -> usize {
     text.iter().filter(|byte| **byte == b'\n').count()
 }
 
+// The words that ask `check` what these ask `prove`: its side and its number of turns. Less room than
+// usual is quicker to take.
+fn words_of_check(alloc: Global, words: &str) -> Result<String, AllocError> {
+    let asked = match words.split_once(" --") {
+        Some((asked, _)) => asked,
+        None => words,
+    };
+    let rest = asked.strip_prefix("prove").unwrap_or(asked);
+    format!(in alloc; "check{rest} --room 20000")
+}
+
+// The record of a question, and after it its answer without the first line, is accepted by `check`,
+// with the rank that `prove` found.
+fn is_accepted<R: AllocGlobal + Threads + Sync + Abort>(
+    rt: &R,
+    question: &Question<'_>,
+    answer: &[u8],
+    rank: &str,
+) -> Result<(), Fail> {
+    let alloc = rt.alloc();
+    let words = words_of_check(alloc, question.words)?;
+    let mut both = Vec::from_slice(alloc, question.start.as_bytes())?;
+    let first = first_line(answer).len();
+    both.extend_from_slice(answer.get(first + 1..).unwrap_or(answer))?;
+    let done = run(rt, &words, &Outside::plain(&both))?;
+    let wanted = format!(in alloc; "accepted {rank}\n")?;
+    assert_eq!(rt; done.status, Status::Done, "{words}");
+    assert_eq!(rt; done.output.as_slice(), wanted.as_bytes(), "{words}");
+    Ok(())
+}
+
+// Asks each question that is answered with yes, and then `check` about the strategy.
+fn accept_all<R: AllocGlobal + Threads + Sync + Abort>(
+    rt: &R,
+    questions: &[Question<'_>],
+) -> Result<(), Fail> {
+    for question in questions {
+        if let Some(rank) = question.first.strip_prefix("yes ") {
+            let start = question.start.as_bytes();
+            let done = run(rt, question.words, &Outside::plain(start))?;
+            is_accepted(rt, question, &done.output, rank)?;
+        }
+    }
+    Ok(())
+}
+
 // Asks each question.
 fn ask_all<R: AllocGlobal + Threads + Sync + Abort>(
     rt: &R,
@@ -604,6 +651,15 @@ fn five_turns(rt: HostRuntime) -> Result<(), Fail> {
 }
 
 #[test]
+fn each_yes_is_accepted_by_check(rt: HostRuntime) -> Result<(), Fail> {
+    accept_all(&rt, &SHALLOW)?;
+    accept_all(&rt, &DEEP)?;
+    accept_all(&rt, &FOUR)?;
+    accept_all(&rt, &FIVE)?;
+    accept_all(&rt, &LIMITS)
+}
+
+#[test]
 fn budgets_and_rooms(rt: HostRuntime) -> Result<(), Fail> {
     ask_all(&rt, &LIMITS)
 }
@@ -624,14 +680,5 @@ fn options(rt: HostRuntime) -> Result<(), Fail> {
             "{words}"
         );
     }
-    for words in &BAD_WORDS {
-        let done = run(&rt, words, &Outside::plain(AT_HOME.as_bytes()))?;
-        assert_eq!(rt; done.status, Status::Words, "{words}");
-        assert_eq!(rt;
-            done.output.as_slice(),
-            b"bad words\n".as_slice(),
-            "{words}"
-        );
-    }
-    Ok(())
+    refuse_all(&rt, &BAD_WORDS, AT_HOME.as_bytes())
 }

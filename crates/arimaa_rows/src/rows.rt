@@ -1,5 +1,5 @@
 //! What `prove` answers over one start line, what `control` and `make` answer, and words out of form.
-use crate::runs::{Outside, Row, check, run};
+use crate::runs::{Row, check, refuse_all};
 use arimaa_outside::Status;
 use std::test::Fail;
 
@@ -281,14 +281,5 @@ fn one_start_line(rt: HostRuntime) -> Result<(), Fail> {
 
 #[test]
 fn bad_words(rt: HostRuntime) -> Result<(), Fail> {
-    for words in &BAD_WORDS {
-        let done = run(&rt, words, &Outside::plain(b"start"))?;
-        assert_eq!(rt; done.status, Status::Words, "{words}");
-        assert_eq!(rt;
-            done.output.as_slice(),
-            b"bad words\n".as_slice(),
-            "{words}"
-        );
-    }
-    Ok(())
+    refuse_all(&rt, &BAD_WORDS, b"start")
 }

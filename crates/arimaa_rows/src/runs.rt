@@ -39,6 +39,7 @@ pub struct Done {
 }
 
 // One example: the words, the input, and the output and status that are wanted.
+#[derive(Clone, Copy)]
 pub struct Row<'a> {
     pub words: &'a str,
     pub input: &'a str,
@@ -60,6 +61,24 @@ pub fn check<R: Threads + Sync + AllocGlobal + Abort>(
             "{}: {}",
             row.words,
             row.input
+        );
+    }
+    Ok(())
+}
+
+// Runs each list of words, none of which is in the form of a command.
+pub fn refuse_all<R: Threads + Sync + AllocGlobal + Abort>(
+    rt: &R,
+    lists: &[&str],
+    input: &[u8],
+) -> Result<(), Fail> {
+    for words in lists {
+        let done = run(rt, words, &Outside::plain(input))?;
+        assert_eq!(rt; done.status, Status::Words, "{words}");
+        assert_eq!(rt;
+            done.output.as_slice(),
+            b"bad words\n".as_slice(),
+            "{words}"
         );
     }
     Ok(())

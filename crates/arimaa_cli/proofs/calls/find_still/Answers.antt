@@ -5,7 +5,7 @@ use Rattle.arimaa_cli.proofs.Ends.{answer_found, kept_out}
 use Rattle.arimaa_cli.proofs.calls.find_still.Goals as goal
 
 pub still_answer-requires : goal.still_answer-requires
-still_answer-requires g c = kept_out (is_prove c.in-Ok.asking.command) c.in-Ok.ensures.asks.served
+still_answer-requires g c = record { still = kept_out (is_prove c.in-Ok.asking.command) c.in-Ok.ensures.asks.served; in_range = c.in-Ok.ensures.asks.in_form.in_range }
 
 pub returns-in_ok-still_answer-in-Ok-clause-answer : goal.returns-in_ok-still_answer-in-Ok-clause-answer
 returns-in_ok-still_answer-in-Ok-clause-answer g c = λ bytes input fault memory.

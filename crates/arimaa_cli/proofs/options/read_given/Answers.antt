@@ -1,4 +1,4 @@
-use Rattle.std.proofs.Common.{◌≡◌, ◌≤◌, ◌<◌, ◌+◌, [], ◌∷◌, List, ℕ, drop, length, arith, refl}
+use Rattle.std.proofs.Common.{◌+◌, drop, arith, refl}
 use Rattle.arimaa_cli.specs.declared.options.Given.{Given}
 use Rattle.arimaa_cli.specs.Options.{Give, nothing_given}
 use Rattle.arimaa_cli.proofs.OptionForms.{get_within, if_none, last_word, next_option, no_half, none_more, nothing_left, one_more, same_more, two_words}

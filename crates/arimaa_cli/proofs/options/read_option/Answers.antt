@@ -1,4 +1,4 @@
-use Rattle.std.proofs.Common.{◌≡◌, ◌≤◌, ℕ, Option, None, Some, Bool, true, false, is_some, refl, sym, ◌∙◌, subst, arith, true≢false}
+use Rattle.std.proofs.Common.{◌≡◌, ◌≤◌, ℕ, Option, None, Some, false, is_some, refl, sym, ◌∙◌, subst, arith, true≢false}
 use Rattle.arimaa_cli.specs.Options.{given_for}
 use Rattle.arimaa_cli.proofs.options.read_option.Goals as goal
 

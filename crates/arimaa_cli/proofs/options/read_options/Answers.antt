@@ -1,4 +1,4 @@
-use Rattle.std.proofs.Common.{◌≡◌, ◌≤◌, ◌*◌, List, ℕ, drop, sym, subst, arith}
+use Rattle.std.proofs.Common.{◌≤◌, ◌*◌, drop, subst, arith}
 use Rattle.arimaa_pool.specs.declared.settings.Settings.{Settings}
 use Rattle.arimaa_cli.proofs.OptionForms.{limits, one_options}
 use Rattle.arimaa_cli.proofs.options.read_options.Goals as goal
