@@ -1,0 +1,9 @@
+pub mod LinePlaces
+pub mod RecordPlaces
+pub mod Telling
+pub mod ShareLaws
+pub mod WordForms
+pub mod AnswerLaws
+pub mod Agreeing
+pub mod Endings
+pub mod Covering

@@ -1,0 +1,9 @@
+pub mod Archive
+pub mod Told
+pub mod Shares
+pub mod Report
+pub mod Words
+pub mod Writing
+pub mod Calls
+pub mod Agreement
+pub mod Cover
