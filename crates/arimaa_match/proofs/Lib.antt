@@ -1,0 +1,14 @@
+pub mod Parts
+pub mod Sides
+pub mod Fine
+pub mod Turns
+pub mod Ends
+pub mod ToldOnce
+pub mod RecordLaws
+pub mod KeptRecords
+pub mod MatchRecords
+pub mod Counted
+pub mod Openings
+pub mod Games
+pub mod Rulings
+pub mod KeptPhases

@@ -1,0 +1,164 @@
+-- An exchange with one engine as a part of a match.
+use Rattle.std.proofs.Common.{◌≡◌, List, [], ℕ, Option, Result, Ok, Err, ap, refl}
+use Rattle.arimaa_board.specs.declared.piece.Color.{Color}
+use Rattle.arimaa_board.specs.declared.piece.Color.TheVariants.{Gold, Silver}
+use Rattle.arimaa_outside.specs.Counts.{NeverFall}
+use Rattle.arimaa_engine.proofs.Causes.{falls_never}
+use Rattle.arimaa_engine.proofs.Exchanges.{told_nothing}
+use Rattle.arimaa_engine.specs.declared.fault.EngineFault.{EngineFault}
+use Rattle.arimaa_engine.specs.declared.fault.EngineFault.TheVariants as fault
+use Rattle.arimaa_engine.specs.Exchange.{Exchange, TookPlaceOrBroke}
+use Rattle.arimaa_engine.specs.Exchange as engine
+use Rattle.arimaa_match.specs.Parts.{BrokeOff, PortView, TookPlace, Went, WentSo, of_side, stopped, with_engine, with_gold, with_silver, with_value}
+use Rattle.arimaa_match.proofs.Parts.{tells_none}
+
+gold_took : {X : Type 0} (exchange : Exchange X) (old new silver : PortView)
+    (given : Option (List ℕ)) (r : Result X EngineFault) → NeverFall old.counts new.counts
+    → engine.TookPlace exchange old.told new.told r
+    → TookPlace (with_engine Gold exchange) (record { gold = old; silver = silver; given = given })
+    (record { gold = new; silver = silver; given = given }) (of_side Gold r)
+gold_took exchange old new silver given r n a = record {
+  heard = record { gold = a.heard; silver = []; moments = [] };
+  lines = record { to_gold = a.lines; to_silver = [] };
+  between = record {
+    gold_answers = a.answers;
+    silver_answers = told_nothing silver.told.answers;
+    to_gold = a.sent;
+    to_silver = told_nothing silver.told.sent;
+    moments = tells_none given;
+    gold_counts = n;
+    silver_counts = falls_never silver.counts;
+  };
+  agrees = λ later. ap (with_gold later) (a.agrees later.gold);
+}
+
+silver_took : {X : Type 0} (exchange : Exchange X) (old new gold : PortView)
+    (given : Option (List ℕ)) (r : Result X EngineFault) → NeverFall old.counts new.counts
+    → engine.TookPlace exchange old.told new.told r
+    → TookPlace (with_engine Silver exchange) (record { gold = gold; silver = old; given = given })
+    (record { gold = gold; silver = new; given = given }) (of_side Silver r)
+silver_took exchange old new gold given r n a = record {
+  heard = record { gold = []; silver = a.heard; moments = [] };
+  lines = record { to_gold = []; to_silver = a.lines };
+  between = record {
+    gold_answers = told_nothing gold.told.answers;
+    silver_answers = a.answers;
+    to_gold = told_nothing gold.told.sent;
+    to_silver = a.sent;
+    moments = tells_none given;
+    gold_counts = falls_never gold.counts;
+    silver_counts = n;
+  };
+  agrees = λ later. ap (with_silver later) (a.agrees later.silver);
+}
+
+gold_off : {X : Type 0} (exchange : Exchange X) (old new silver : PortView)
+    (given : Option (List ℕ)) → NeverFall old.counts new.counts
+    → engine.BrokeOff exchange old.told new.told
+    → BrokeOff (with_engine Gold exchange) (record { gold = old; silver = silver; given = given })
+    (record { gold = new; silver = silver; given = given })
+gold_off exchange old new silver given n a = record {
+  heard = record { gold = a.heard; silver = []; moments = [] };
+  lines = record { to_gold = a.lines; to_silver = [] };
+  rest = record { to_gold = a.rest; to_silver = [] };
+  between = record {
+    gold_answers = a.answers;
+    silver_answers = told_nothing silver.told.answers;
+    to_gold = a.sent;
+    to_silver = told_nothing silver.told.sent;
+    moments = tells_none given;
+    gold_counts = n;
+    silver_counts = falls_never silver.counts;
+  };
+  begins = ap (λ lines. record { to_gold = lines; to_silver = [] }) a.begins;
+}
+
+silver_off : {X : Type 0} (exchange : Exchange X) (old new gold : PortView)
+    (given : Option (List ℕ)) → NeverFall old.counts new.counts
+    → engine.BrokeOff exchange old.told new.told
+    → BrokeOff (with_engine Silver exchange) (record { gold = gold; silver = old; given = given })
+    (record { gold = gold; silver = new; given = given })
+silver_off exchange old new gold given n a = record {
+  heard = record { gold = []; silver = a.heard; moments = [] };
+  lines = record { to_gold = []; to_silver = a.lines };
+  rest = record { to_gold = []; to_silver = a.rest };
+  between = record {
+    gold_answers = told_nothing gold.told.answers;
+    silver_answers = a.answers;
+    to_gold = told_nothing gold.told.sent;
+    to_silver = a.sent;
+    moments = tells_none given;
+    gold_counts = falls_never gold.counts;
+    silver_counts = n;
+  };
+  begins = ap (λ lines. record { to_gold = []; to_silver = lines }) a.begins;
+}
+
+gold_so : {X : Type 0} (exchange : Exchange X) (old new silver : PortView) (given : Option (List ℕ))
+    (r : Result X EngineFault) → NeverFall old.counts new.counts
+    → TookPlaceOrBroke exchange old.told new.told r
+    → WentSo (with_engine Gold exchange) (record { gold = old; silver = silver; given = given })
+    (record { gold = new; silver = silver; given = given }) (stopped Gold r)
+gold_so exchange old new silver given (Ok x) n a =
+    gold_took exchange old new silver given (Ok x) n a
+gold_so exchange old new silver given (Err fault.Failed) n a =
+    gold_took exchange old new silver given (Err fault.Failed) n a
+gold_so exchange old new silver given (Err fault.Ended) n a =
+    gold_took exchange old new silver given (Err fault.Ended) n a
+gold_so exchange old new silver given (Err fault.Long) n a =
+    gold_took exchange old new silver given (Err fault.Long) n a
+gold_so exchange old new silver given (Err fault.Silent) n a =
+    gold_took exchange old new silver given (Err fault.Silent) n a
+gold_so exchange old new silver given (Err (fault.Version text)) n a =
+    gold_took exchange old new silver given (Err (fault.Version text)) n a
+gold_so exchange old new silver given (Err fault.Memory) n a =
+    gold_off exchange old new silver given n a
+
+silver_so : {X : Type 0} (exchange : Exchange X) (old new gold : PortView) (given : Option (List ℕ))
+    (r : Result X EngineFault) → NeverFall old.counts new.counts
+    → TookPlaceOrBroke exchange old.told new.told r
+    → WentSo (with_engine Silver exchange) (record { gold = gold; silver = old; given = given })
+    (record { gold = gold; silver = new; given = given }) (stopped Silver r)
+silver_so exchange old new gold given (Ok x) n a =
+    silver_took exchange old new gold given (Ok x) n a
+silver_so exchange old new gold given (Err fault.Failed) n a =
+    silver_took exchange old new gold given (Err fault.Failed) n a
+silver_so exchange old new gold given (Err fault.Ended) n a =
+    silver_took exchange old new gold given (Err fault.Ended) n a
+silver_so exchange old new gold given (Err fault.Long) n a =
+    silver_took exchange old new gold given (Err fault.Long) n a
+silver_so exchange old new gold given (Err fault.Silent) n a =
+    silver_took exchange old new gold given (Err fault.Silent) n a
+silver_so exchange old new gold given (Err (fault.Version text)) n a =
+    silver_took exchange old new gold given (Err (fault.Version text)) n a
+silver_so exchange old new gold given (Err fault.Memory) n a =
+    silver_off exchange old new gold given n a
+
+-- an exchange with Gold's engine is a part of the match, and Silver's port stays as it was
+pub with_gold_went : {X : Type 0} {exchange : Exchange X} {old new : PortView}
+    {r : Result X EngineFault} (silver : PortView) (given : Option (List ℕ))
+    → NeverFall old.counts new.counts → engine.Went exchange old.told new.told r
+    → Went (with_engine Gold exchange) (record { gold = old; silver = silver; given = given })
+    (record { gold = new; silver = silver; given = given }) (stopped Gold r)
+with_gold_went {X} {exchange} {old} {new} {r} silver given n a =
+    record { so = gold_so exchange old new silver given r n a.so }
+
+-- the same of Silver's engine
+pub with_silver_went : {X : Type 0} {exchange : Exchange X} {old new : PortView}
+    {r : Result X EngineFault} (gold : PortView) (given : Option (List ℕ))
+    → NeverFall old.counts new.counts → engine.Went exchange old.told new.told r
+    → Went (with_engine Silver exchange) (record { gold = gold; silver = old; given = given })
+    (record { gold = gold; silver = new; given = given }) (stopped Silver r)
+with_silver_went {X} {exchange} {old} {new} {r} gold given n a =
+    record { so = silver_so exchange old new gold given r n a.so }
+
+-- the value of an exchange stays beside what stops it
+pub stopped_with_value : {X Y : Type 0} (side : Color) (x : X) (r : Result Y EngineFault)
+    → with_value x (stopped side r) ≡ stopped side (engine.valued x r)
+stopped_with_value side x (Ok y) = refl
+stopped_with_value side x (Err fault.Failed) = refl
+stopped_with_value side x (Err fault.Ended) = refl
+stopped_with_value side x (Err fault.Long) = refl
+stopped_with_value side x (Err fault.Silent) = refl
+stopped_with_value side x (Err (fault.Version text)) = refl
+stopped_with_value side x (Err fault.Memory) = refl

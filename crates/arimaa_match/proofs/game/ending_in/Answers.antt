@@ -1,0 +1,10 @@
+use Rattle.std.proofs.Common.{◌∙◌, sym}
+use Rattle.arimaa_game.proofs.Endings.{unclosed-ending}
+use Rattle.arimaa_match.proofs.game.ending_in.Goals as goal
+
+pub returns-in-Playing : goal.returns-in-Playing
+returns-in-Playing c =
+    rw c.in-Playing.is
+    (c.ending.ensures
+    ∙ sym (unclosed-ending c.in-Playing.game.history c.in-Playing.game.closing
+    (rw c.in-Playing.is at c.requires).1.unclosed))

@@ -1,0 +1,9 @@
+pub mod Phases
+pub mod Parts
+pub mod MatchState
+pub mod Match
+pub mod Thoughts
+pub mod Laws
+pub mod Programs
+pub mod Texts
+pub mod Records
