@@ -1,0 +1,3 @@
+pub mod HeldRoots
+pub mod EscapeReading
+pub mod OwnEscapesHold

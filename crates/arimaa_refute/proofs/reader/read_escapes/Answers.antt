@@ -1,0 +1,8 @@
+use Rattle.arimaa_refute.proofs.EscapeReading.{escapes-read, bad-read}
+use Rattle.arimaa_refute.proofs.reader.read_escapes.Goals as goal
+
+pub returns-clause-no_other : goal.returns-clause-no_other
+returns-clause-no_other c = λ e text. escapes-read c.args.attacker c.args.bytes.now c.reading.result e c.reading.ensures text
+
+pub returns-clause-no_other_fault : goal.returns-clause-no_other_fault
+returns-clause-no_other_fault c = λ n first. bad-read c.args.attacker c.args.bytes.now c.reading.result n c.reading.ensures first

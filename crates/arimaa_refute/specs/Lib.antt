@@ -1,0 +1,4 @@
+pub mod Escapes
+pub mod EscapeLaws
+pub mod Text
+pub mod OwnEscapes

@@ -1,0 +1,22 @@
+//! Escapes: what the defender plays so that the attacker doesn't win by force.
+//!
+//! A list of escapes shows that a position is not won within a number of turns, as a strategy shows
+//! that it is. The definitions stand in `specs/`.
+#![tactic(auto)]
+
+mod escape;
+mod escape_line;
+mod escapes;
+mod fault;
+mod laws;
+mod reader;
+#[cfg(test)]
+mod tests;
+mod written_form;
+
+pub use escape::Escape;
+pub use escapes::Escapes;
+pub use fault::EscapeFault;
+pub use laws::{held_roots_are_not_won, own_escapes_hold};
+pub use reader::read_escapes;
+pub use written_form::escapes_text;
