@@ -43,16 +43,16 @@ fn board(pieces: &[(u8, u8)]) -> Result<Board, Fail> {
 }
 
 // What a step ends a turn with.
-fn end_after(state: &TurnState, step: Step) -> Option<Position> {
-    let done = state.step(step).ok()?;
+fn end_after(state: &TurnState, step: &Step) -> Option<Position> {
+    let done = state.step(*step).ok()?;
     done.state.finish().ok()
 }
 
 // Whether a step that ends a turn after a first one ends it the same when it comes before it.
-fn ends_turned(start: &TurnState, first: Step, then: &TurnState, second: Step) -> bool {
+fn ends_turned(start: &TurnState, first: &Step, then: &TurnState, second: &Step) -> bool {
     match end_after(then, second) {
         None => true,
-        Some(end) => match start.step(second) {
+        Some(end) => match start.step(*second) {
             Ok(done) => end_after(&done.state, first) == Some(end),
             Err(_) => false,
         },
@@ -61,10 +61,10 @@ fn ends_turned(start: &TurnState, first: Step, then: &TurnState, second: Step) -
 
 // How many steps after a first one are left out, each of which ends the turn the same when it comes
 // before it.
-fn left_out(start: &TurnState, first: Step) -> Result<u32, Fail> {
-    let then = start.step(first).map_err(|_| "not accepted")?.state;
+fn left_out(start: &TurnState, first: &Step) -> Result<u32, Fail> {
+    let then = start.step(*first).map_err(|_| "not accepted")?.state;
     let accepted = then.accepted();
-    let others = EarlierSteps::commuting_with(&first).left_out_of(&accepted);
+    let others = EarlierSteps::commuting_with(first).left_out_of(&accepted);
     let mut count = 0u32;
     for dir in Dir::ALL {
         for number in 0..64u8 {
@@ -77,7 +77,7 @@ fn left_out(start: &TurnState, first: Step) -> Result<u32, Fail> {
                         from: square,
                         dir,
                     };
-                    if !ends_turned(start, first, &then, second) {
+                    if !ends_turned(start, first, &then, &second) {
                         return Err("another end".into());
                     }
                     count = count.saturating_add(1);
@@ -105,7 +105,7 @@ fn steps_that_commute_end_the_same(rt: HostRuntime) -> Result<(), Fail> {
         dir: Dir::North,
     };
     // Four steps of the camel, three of the cat, and three of the dog.
-    assert_eq!(rt; left_out(&start, rabbit)?, 10);
+    assert_eq!(rt; left_out(&start, &rabbit)?, 10);
     // One step of the cat, and three of the dog.
     let camel = Step {
         piece: Piece {
@@ -115,6 +115,6 @@ fn steps_that_commute_end_the_same(rt: HostRuntime) -> Result<(), Fail> {
         from: Square::new(27).ok_or("off the board")?,
         dir: Dir::East,
     };
-    assert_eq!(rt; left_out(&start, camel)?, 4);
+    assert_eq!(rt; left_out(&start, &camel)?, 4);
     Ok(())
 }
