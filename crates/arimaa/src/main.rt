@@ -1,12 +1,14 @@
 //! `arimaa`: proved answers about the board game Arimaa.
 #![tactic(auto)]
 
+use arimaa_child::{ChildSpawner, SystemClock};
 use arimaa_cli::run;
-use arimaa_outside::{CommandWords, MemClock, MemSpawner, Status, StdSink, StdSource};
+use arimaa_outside::{CommandWords, Status, StdSink, StdSource};
 use std::alloc::{AllocError, Global};
-use std::process::ExitCode;
+use std::process::{ExitCode, Processes};
 use std::rt::Env;
 use std::thread::Threads;
+use std::time::Clock;
 use std::{env, io};
 
 // The words after the program's own name. Where one of them is not UTF-8 there are none, since such
@@ -28,17 +30,17 @@ fn command_words(rt: &(impl Env + AllocGlobal)) -> Result<CommandWords, AllocErr
     Ok(words)
 }
 
-// Runs the command that the words ask for, on standard input and standard output. No command starts an
-// engine or asks for the time yet, so there is no engine to start, and the clock stands at 0.
-fn answer<R: Threads + Sync + Env + AllocGlobal + Input + Print>(
+// Runs the command that the words ask for, on standard input and standard output, with engines as
+// child processes and the time of the system.
+fn answer<R: Threads + Sync + Env + AllocGlobal + Input + Print + Processes + Clock>(
     rt: &R,
     alloc: Global,
 ) -> Result<Status, AllocError> {
     let words = command_words(rt)?;
     let mut input = StdSource::new(rt.reader());
     let mut output = StdSink::new(io::writer(rt));
-    let mut spawner = MemSpawner::new(alloc, Vec::new(alloc), Vec::new(alloc))?;
-    let mut clock = MemClock::new(Vec::new(alloc));
+    let mut spawner = ChildSpawner::new(rt, alloc);
+    let mut clock = SystemClock::new(rt);
     Ok(run(
         rt,
         alloc,

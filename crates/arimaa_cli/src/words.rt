@@ -36,6 +36,13 @@ impl<'a> Model for TextWord<'a> {
 }
 
 impl TextWord<'_> {
+    /// The word.
+    pub fn as_str(&self) -> &str
+        ensures { result.now ≡ self.now }
+    {
+        self.word
+    }
+
     /// The bytes of the word.
     pub fn as_bytes(&self) -> &[u8]
         ensures { result.now ≡ self.now }
@@ -45,7 +52,7 @@ impl TextWord<'_> {
 }
 
 // Whether there are so many words, the first of which is a command's name.
-fn is_named(words: &CommandWords, name: &str, count: usize) -> bool
+pub(crate) fn is_named(words: &CommandWords, name: &str, count: usize) -> bool
     ensures { IsTrue result ↔ IsNamed words.now name.now count }
 {
     match words.get(0) {
@@ -82,6 +89,18 @@ fn is_text(word: &[u8]) -> bool
     match word {
         [] => false,
         [first, ..] => *first != b'-',
+    }
+}
+
+// The text that a word stands for, if it may stand for one.
+pub(crate) fn text_word(word: &str) -> Option<TextWord<'_>>
+    ensures form { IfSome result (λ text. (text ≡ word.now) × IsTextWord word.now) }
+    ensures none { IfNone result (¬ IsTextWord word.now) }
+{
+    if is_text(word.as_bytes()) {
+        Some(TextWord { word })
+    } else {
+        None
     }
 }
 

@@ -5,6 +5,8 @@
 #[cfg(test)]
 mod faults;
 #[cfg(test)]
+mod matches;
+#[cfg(test)]
 mod questions;
 #[cfg(test)]
 mod records;
