@@ -8,6 +8,7 @@ use arimaa_outside::{
     Bytes, CommandWords, MemClock, MemPort, MemSink, MemSource, MemSpawner, Said, Status,
 };
 use std::alloc::{AllocError, Global};
+use std::process::Abort;
 use std::test::Fail;
 use std::thread::Threads;
 
@@ -70,27 +71,33 @@ fn played<R: Threads + Sync + AllocGlobal>(
     Ok((status, Vec::from_slice(alloc, sink.written())?))
 }
 
+// Plays a match in which Silver answers so, by both calls: it ends so, with this status.
+fn ends_so<R: Threads + Sync + AllocGlobal + Abort>(
+    rt: &R,
+    silver: &[&str],
+    end: &str,
+    wanted: Status,
+) -> Result<(), Fail> {
+    let alloc = rt.alloc();
+    let text = format!(in alloc; "1g {GOLD}\n1s {SILVER}\n2g Cc2n Cc3x\n2s\n{end}\n")?;
+    for by_run in [true, false] {
+        let (status, written) = played(rt, by_run, &[GOLD, "Cc2n"], silver)?;
+        assert_eq!(rt; status, wanted);
+        assert_eq!(rt; written.as_slice(), text.as_bytes());
+    }
+    Ok(())
+}
+
 // Silver's turn is unlawful, since d8 is occupied; or Silver's program ends in its place.
 #[test]
 fn a_turn_that_is_unlawful_and_an_engine_that_ends(rt: HostRuntime) -> Result<(), Fail> {
-    let alloc = rt.alloc();
-    for (answers, end, wanted) in [
-        (&[SILVER, "ed7n"], "# winner gold illegal", Status::Done),
-        (&[SILVER, ""], "# engine silver ended", Status::EngineFault),
-    ] {
-        let silver = if wanted == Status::Done {
-            answers.as_slice()
-        } else {
-            &answers[..1]
-        };
-        let text = format!(in alloc; "1g {GOLD}\n1s {SILVER}\n2g Cc2n Cc3x\n2s\n{end}\n")?;
-        for by_run in [true, false] {
-            let (status, written) = played(&rt, by_run, &[GOLD, "Cc2n"], silver)?;
-            assert_eq!(rt; status, wanted);
-            assert_eq!(rt; written.as_slice(), text.as_bytes());
-        }
-    }
-    Ok(())
+    ends_so(
+        &rt,
+        &[SILVER, "ed7n"],
+        "# winner gold illegal",
+        Status::Done,
+    )?;
+    ends_so(&rt, &[SILVER], "# engine silver ended", Status::EngineFault)
 }
 
 // A program that can't be started, and words that ask for no match.
