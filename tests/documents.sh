@@ -30,7 +30,7 @@ for page in README.md docs/help.txt docs/MANY-RECORDS.md; do
     command=${block%%$'\n'*}
     expected=${block#"$command"}
     expected=${expected#$'\n'}
-    [ -n "$expected" ] && compare "$page: $command" "${expected%$'\n'}" "$(bash -c "$command" 2>/dev/null)"
+    compare "$page: $command" "${expected%$'\n'}" "$(bash -c "$command" 2>/dev/null)"
   done < <(shown "$page")
 done
 
