@@ -32,7 +32,7 @@ use Rattle.arimaa_results.specs.NextStates.{AreAllEnding, ends_of, pairs_by, nex
 use Rattle.arimaa_results.proofs.FirstSteps.{in_mask}
 
 -- numbers that give the same
-same_numbers : {Y : Type 0} (F G : ℕ → List Y) (k a : ℕ) → ((n : ℕ) → a ≤ n → n < a + k → F n ≡ G n) → flat_map F (range_with_len a k) ≡ flat_map G (range_with_len a k)
+pub same_numbers : {Y : Type 0} (F G : ℕ → List Y) (k a : ℕ) → ((n : ℕ) → a ≤ n → n < a + k → F n ≡ G n) → flat_map F (range_with_len a k) ≡ flat_map G (range_with_len a k)
 same_numbers F G zero a same = refl
 same_numbers F G (suc k) a same = λ i. same a (omega arith) (omega arith) i ++ same_numbers F G k (a + 1) (λ n from to. same n (omega arith) (omega arith)) i
 
@@ -106,6 +106,22 @@ module _ (st : TurnState) where
   accepted s fine =
       let done : StepDone = record { state = next_state st s; removed = trap_first (removed_by st.board s) } in
       ap (paired s) (one_state (next_fault st s) done fine)
+
+  -- the states that a step makes, by whether it is accepted
+  pub states_by-is : (s : Step) → states_by st s ≡ cond (is_ok (next_answer st s)) (next_state st s ∷ []) []
+  unfolding next_answer
+  states_by-is s = by_fault (next_fault st s) where
+    done : StepDone
+    done = record { state = next_state st s; removed = trap_first (removed_by st.board s) }
+
+    by_fault : (o : Option StepFault) → option_to_list (made (unless o done)) ≡ cond (is_ok {T = StepDone} (unless o done)) (next_state st s ∷ []) []
+    by_fault None = refl
+    by_fault (Some e) = refl
+
+  pub pairs_by-is : (s : Step) → pairs_by st s ≡ cond (is_ok (next_answer st s)) ((s, next_state st s) ∷ []) []
+  pairs_by-is s =
+      ap (paired s) (states_by-is s)
+      ∙ elim (is_ok (next_answer st s)) as (λ v. paired s (cond v (next_state st s ∷ []) []) ≡ cond v ((s, next_state st s) ∷ []) []) [ true ↦ refl | false ↦ refl ]
 
   refused_content : (n : ℕ) (d : Dir) (o : Option Piece) → accepts_content st d n o ≡ false → pairs_of_content st n d o ≡ []
   refused_content n d None out = refl
@@ -213,11 +229,11 @@ unfinished false cut r torn = rw torn refl
 
 module _ (barred : List Position) (st : TurnState) where
   -- what a step and its state give
-  abbrev given : Step × TurnState → List Position
+  abbrev pub given : Step × TurnState → List Position
   given pr = given_by barred (state_end pr.1)
 
   -- a step that is refused, or after which the steps can't be cut, gives nothing
-  given_none : (s : Step) → (is_ok (next_answer st s) && cuts_next st s) ≡ false → flat_map given (pairs_by st s) ≡ []
+  pub given_none : (s : Step) → (is_ok (next_answer st s) && cuts_next st s) ≡ false → flat_map given (pairs_by st s) ≡ []
   given_none s not_both =
       elim (is_ok (next_answer st s)) as (λ v. is_ok (next_answer st s) ≡ v → (v && cuts_next st s) ≡ false → flat_map given (pairs_by st s) ≡ []) [
         | true ↦ λ fine torn.

@@ -1,12 +1,14 @@
 //! What the end of the turn answers after one more step, one step after another.
-ghost use Rattle.std.specs.Prelude.{◌≡◌, ◌++◌, [], List, IfNone};
+ghost use Rattle.std.specs.Prelude.{◌≡◌, ◌++◌, [], List, IfNone, IsOk};
 ghost use Rattle.std.specs.List.{flat_map};
 ghost use Rattle.std.specs.Option.{option_to_list};
 ghost use Rattle.arimaa_board.specs.declared.position.Position.{Position};
 ghost use Rattle.arimaa_results.specs.Ahead.{brings, given_by};
+ghost use Rattle.arimaa_results.specs.LastSteps.{brings_in_order};
+ghost use Rattle.arimaa_step.specs.Next.{next_answer, next_state};
 
 use crate::next_states::take_first;
-use arimaa_board::Position;
+use arimaa_board::{Position, Step};
 use arimaa_model::TurnFault;
 use arimaa_step::{AcceptedSteps, TurnState};
 use std::marker::Model;
@@ -44,6 +46,20 @@ impl<'a> LastSteps<'a> {
         LastSteps {
             state,
             steps: state.ending(),
+        }
+    }
+
+    /// Those after a step of a state, and the state `after` it, in order: where it is a single step, those that commute
+    /// with it and come before it are left out.
+    pub(crate) fn in_order(before: &TurnState, step: &Step, after: &'a TurnState) -> LastSteps<'a>
+        requires accepted { IsOk (next_answer before.now step.now) }
+        requires after { after.now ≡ next_state before.now step.now }
+        ensures { (barred : List Position)
+            → flat_map (given_by barred) result ≡ brings_in_order barred before.now step.now }
+    {
+        LastSteps {
+            state: after,
+            steps: before.ending_in_order(step, after),
         }
     }
 

@@ -1,9 +1,8 @@
 -- Fourth steps that commute with the third and come before it bring about nothing new.
-use Rattle.std.proofs.Common.{◌≡◌, ℕ, zero, suc, ◌+◌, ◌<◌, ◌≤◌, ◌&&◌, List, [], ◌∷◌, ◌++◌, map, length, Bool, true, false, cond, ◌⊎◌, inl, inr, ⊎_elim, Option, None, Some, Result, Ok, Err, refl, sym, ◌∙◌, ap, subst, arith, append_assoc, append-nil}
-use Rattle.std.specs.Prelude.{not, is_ok, nat_lt}
-use Rattle.std.specs.List.{flat_map, filter, range_with_len}
-use Rattle.std.proofs.lemmas.Bool.{cases_eq, cases_lt, cases_Bool, and_parts, ltb-true, true≢false}
-use Rattle.arimaa_board.specs.declared.piece.Color.{Color}
+use Rattle.std.proofs.Common.{◌≡◌, ℕ, zero, suc, ◌+◌, ◌<◌, ◌≤◌, ◌&&◌, List, [], ◌∷◌, ◌++◌, Bool, true, false, cond, ◌⊎◌, inl, inr, ⊎_elim, Some, Result, Ok, Err, refl, sym, ◌∙◌, ap, subst, arith, append_assoc, append-nil}
+use Rattle.std.specs.Prelude.{is_ok, nat_lt}
+use Rattle.std.specs.List.{flat_map, range_with_len}
+use Rattle.std.proofs.lemmas.Bool.{cases_eq, and_parts, ltb-true, true≢false}
 use Rattle.arimaa_board.specs.declared.piece.Piece.{Piece}
 use Rattle.arimaa_board.specs.declared.square.Dir.{Dir}
 use Rattle.arimaa_board.specs.declared.square.Dir.TheVariants.{North, East, South, West}
@@ -16,11 +15,10 @@ use Rattle.arimaa_model.specs.Moves.{target, fits, is_free, after, is_single}
 use Rattle.arimaa_model.specs.Results.{step_of, squares}
 use Rattle.arimaa_model.specs.Plain.{steps_of, candidates}
 use Rattle.arimaa_model.proofs.Members.{In, In-append, In-left, In-right, flat_map-In}
-use Rattle.arimaa_model.proofs.Lists.{flat_map-append}
 use Rattle.arimaa_model.proofs.Pushers.{held_piece, after_settled}
 use Rattle.arimaa_step.specs.declared.state.TurnState.{TurnState}
 use Rattle.arimaa_step.specs.Next.{next_state, next_answer, state_end, goes_alone}
-use Rattle.arimaa_step.specs.Commuting.{commutes, commutes_before, EndTurned}
+use Rattle.arimaa_step.specs.Commuting.{commutes, commutes_before}
 use Rattle.arimaa_step.proofs.Turned.{Goes, single_goes, may_be_turned}
 use Rattle.arimaa_step.proofs.TurnedEnds.{ends_commute, ended_alone}
 use Rattle.arimaa_step.proofs.LeavingOut.{IsLess, AreLess, less_parts, left_out}

@@ -1,8 +1,8 @@
 -- Blocks of values, each less some of what earlier blocks have: the first occurrences stay.
-use Rattle.std.proofs.Common.{◌≡◌, List, [], ◌∷◌, ◌++◌, ◌⊎◌, inl, inr, ⊎_elim, refl, sym, ◌∙◌, ap, subst, append_assoc, append-nil}
+use Rattle.std.proofs.Common.{◌≡◌, List, [], ◌∷◌, ◌++◌, ◌⊎◌, inl, inr, ⊎_elim, refl, sym, ◌∙◌, ap, subst, append-nil}
 use Rattle.std.specs.List.{flat_map}
 use Rattle.arimaa_model.proofs.Lists.{flat_map-append}
-use Rattle.arimaa_model.proofs.Members.{In, In-append, In-left, In-right}
+use Rattle.arimaa_model.proofs.Members.{In, In-append}
 
 -- zs is ys less some elements that are members of qs
 abbrev pub IsLess : {R : Type 0} → List R → List R → List R → Type 0

@@ -1,16 +1,14 @@
 -- The steps of a board in order: what leaves an earlier square stands before.
-use Rattle.std.proofs.Common.{◌≡◌, ℕ, zero, suc, ◌+◌, ◌<◌, ◌≤◌, List, [], ◌∷◌, ◌++◌, map, ◌⊎◌, inl, inr, ⊎_elim, Option, None, Some, refl, sym, ◌∙◌, ap, subst, arith}
+use Rattle.std.proofs.Common.{◌≡◌, ℕ, zero, suc, ◌+◌, ◌<◌, ◌≤◌, List, [], ◌∷◌, ◌++◌, inl, inr, ⊎_elim, Option, None, Some, refl, ap, arith}
 use Rattle.std.specs.List.{flat_map, range_with_len}
 use Rattle.arimaa_board.specs.declared.piece.Piece.{Piece}
-use Rattle.arimaa_board.specs.declared.square.Dir.{Dir}
 use Rattle.arimaa_board.specs.declared.square.Dir.TheVariants.{North, East, South, West}
 use Rattle.arimaa_board.specs.declared.board.Board.{Board}
 use Rattle.arimaa_board.specs.declared.position.Step.{Step}
-use Rattle.arimaa_board.specs.Square.{directions}
 use Rattle.arimaa_board.specs.Board.{at}
 use Rattle.arimaa_model.specs.Results.{step_of, squares}
 use Rattle.arimaa_model.specs.Plain.{steps_of, candidates}
-use Rattle.arimaa_model.proofs.Members.{In, In-append, In-left, In-right}
+use Rattle.arimaa_model.proofs.Members.{In, In-append}
 
 -- no later step leaves an earlier square
 abbrev pub Rising : List Step → Type 0

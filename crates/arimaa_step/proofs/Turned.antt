@@ -1,8 +1,8 @@
 -- Single steps that commute: either order gives the same board.
-use Rattle.std.proofs.Common.{◌≡◌, ◌≢◌, ℕ, ◌+◌, ◌<◌, ◌≤◌, ◌==◌, ◌&&◌, List, [], ◌∷◌, Bool, true, false, cond, Option, None, Some, refl, sym, ◌∙◌, ap, subst, ⊎_elim, inl, inr, ◌⊎◌, arith, length, length-set, ne_eqb, eq-eqb}
-use Rattle.std.specs.Prelude.{◌||◌, not, is_none, IsTrue}
+use Rattle.std.proofs.Common.{◌≡◌, ◌≢◌, ℕ, ◌<◌, ◌==◌, ◌&&◌, List, [], ◌∷◌, Bool, true, false, cond, Option, None, Some, refl, sym, ◌∙◌, ap, subst, ⊎_elim, inl, inr, ◌⊎◌, arith, length, length-set, eq-eqb}
+use Rattle.std.specs.Prelude.{◌||◌, not, is_none}
 use Rattle.std.specs.List.{list_any}
-use Rattle.std.proofs.lemmas.Bool.{cases_eq, cases_Bool, or_cases, or_parts, or_from, or_left, or_right, and_parts, and_from, not-true, true≢false, eqb-true, both_ways}
+use Rattle.std.proofs.lemmas.Bool.{cases_Bool, or_cases, or_parts, and_parts, not-true, true≢false, eqb-true, both_ways}
 use Rattle.arimaa_board.specs.declared.piece.Color.{Color}
 use Rattle.arimaa_board.specs.declared.piece.Piece.{Piece}
 use Rattle.arimaa_board.specs.declared.square.Dir.{Dir}
@@ -13,7 +13,7 @@ use Rattle.arimaa_board.specs.Square.{next_square, directions, is_trap}
 use Rattle.arimaa_board.specs.Board.{at, put, moved, kept, settle, has_beside, color_at, holds}
 use Rattle.arimaa_board.specs.BoardLaws.{same_boards, length-board_of, at-board_of, at-put, at-put_other, kept_off_traps}
 use Rattle.arimaa_board.specs.Masks.{passes, is_beside}
-use Rattle.arimaa_model.specs.Frozen.{is_frozen, is_held, beats, passes_at, any_beside}
+use Rattle.arimaa_model.specs.Frozen.{is_frozen, is_held, beats, passes_at}
 use Rattle.arimaa_model.specs.Moves.{target, enters, fits, is_free, after, is_own, goes_back, is_single}
 use Rattle.arimaa_model.proofs.Shades.{across}
 use Rattle.arimaa_model.proofs.Removals.{way_back}

@@ -1,7 +1,7 @@
 -- Single steps that commute: in either order they end a turn the same.
-use Rattle.std.proofs.Common.{◌≡◌, ◌≢◌, ℕ, ◌+◌, ◌<◌, ◌≤◌, ◌==◌, ◌&&◌, Bool, true, false, cond, Option, None, Some, Result, Ok, Err, refl, sym, ◌∙◌, ap, subst, ⊎_elim, arith, ne_eqb}
+use Rattle.std.proofs.Common.{◌≡◌, ℕ, ◌<◌, ◌==◌, ◌&&◌, Bool, true, false, cond, Option, None, Some, Ok, Err, refl, sym, ◌∙◌, arith, ne_eqb}
 use Rattle.std.specs.Prelude.{◌||◌, not, nat_le, is_ok}
-use Rattle.std.proofs.lemmas.Bool.{cases_Bool, or_cases, or_left, and_parts, and_from, not-true, true≢false, both_ways}
+use Rattle.std.proofs.lemmas.Bool.{or_left, and_parts, and_from, both_ways}
 use Rattle.std.proofs.lemmas.Bool.Decides.{nat_tests}
 use Rattle.arimaa_board.specs.declared.piece.Color.{Color}
 use Rattle.arimaa_board.specs.declared.piece.Piece.{Piece}
@@ -10,16 +10,14 @@ use Rattle.arimaa_board.specs.declared.position.Step.{Step}
 use Rattle.arimaa_board.specs.declared.position.Position.{Position}
 use Rattle.arimaa_board.specs.Board.{settle}
 use Rattle.arimaa_board.specs.Words.{same_squares}
-use Rattle.arimaa_model.specs.declared.fault.TurnFault.{TurnFault}
 use Rattle.arimaa_model.specs.declared.fault.TurnFault.TheVariants.{Empty, Unfinished, Same}
 use Rattle.arimaa_model.specs.Frozen.{is_frozen, beats}
-use Rattle.arimaa_model.specs.Moves.{target, enters, fits, after, is_own, goes_back, is_single, is_half, has_pusher, may_pull}
+use Rattle.arimaa_model.specs.Moves.{target, enters, fits, after, is_own, goes_back, is_single, is_half, may_pull}
 use Rattle.arimaa_model.specs.Results.{position_of}
-use Rattle.arimaa_model.specs.Faults.{unless}
 use Rattle.arimaa_step.specs.declared.state.TurnState.{TurnState}
 use Rattle.arimaa_step.specs.State.{left_if}
-use Rattle.arimaa_step.specs.Next.{next_state, next_answer, next_fault, state_end, cuts_next, goes_alone, begins_push, ends_move, completes_push, completes_pull}
-use Rattle.arimaa_step.specs.Commuting.{in_zone, is_close, commutes, MayBeTurned, EndTurned}
+use Rattle.arimaa_step.specs.Next.{next_state, next_answer, state_end, cuts_next, goes_alone, begins_push, ends_move, completes_push, completes_pull}
+use Rattle.arimaa_step.specs.Commuting.{in_zone, commutes, EndTurned}
 use Rattle.arimaa_step.proofs.Turned.{may_be_turned, single_goes, outside_away, outside_to}
 
 -- a step that goes alone is accepted

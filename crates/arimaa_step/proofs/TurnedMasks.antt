@@ -1,5 +1,5 @@
 -- The masks of the steps that commute with a step.
-use Rattle.std.proofs.Common.{◌≡◌, ℕ, ◌+◌, ◌-◌, ◌*◌, ◌%◌, ◌^◌, ◌<◌, ◌≤◌, ◌==◌, ◌&&◌, Bool, true, false, Option, None, Some, refl, sym, ◌∙◌, ap, ⊎_elim, arith, bit_and, bit_or, w64, ne_eqb, eq-eqb}
+use Rattle.std.proofs.Common.{◌≡◌, ℕ, ◌-◌, ◌^◌, ◌<◌, ◌==◌, ◌&&◌, Bool, true, false, Some, refl, sym, ◌∙◌, ap, subst, ⊎_elim, bit_and, bit_or, w64, ne_eqb, eq-eqb}
 use Rattle.std.specs.Prelude.{◌||◌, not, nat_lt}
 use Rattle.std.specs.Int.{bit_at, bit_not}
 use Rattle.std.proofs.lemmas.Nat.Bits.{bit_at_ones, bit_at_ones_above}
@@ -10,16 +10,18 @@ use Rattle.arimaa_board.specs.declared.square.Dir.TheVariants.{North, East, Sout
 use Rattle.arimaa_step.specs.declared.commuting.EarlierSteps.{EarlierSteps}
 use Rattle.arimaa_step.specs.declared.accepted.AcceptedSteps.{AcceptedSteps}
 use Rattle.arimaa_step.specs.declared.state.TurnState.{TurnState}
-use Rattle.arimaa_step.specs.Accepted.{accepts}
+use Rattle.arimaa_step.specs.Accepted.{accepts, ends_by, mask_towards, AreEnding}
 use Rattle.arimaa_board.specs.declared.position.Step.{Step}
 use Rattle.arimaa_board.specs.Square.{next_square, is_trap}
 use Rattle.arimaa_board.specs.Masks.{bit_of, IsMaskOf, passes, is_beside}
 use Rattle.arimaa_model.specs.Moves.{target, enters}
 use Rattle.arimaa_model.specs.Results.{step_of}
-use Rattle.arimaa_board.proofs.Beside.{upto, upto_all}
+use Rattle.arimaa_board.proofs.Beside.{upto_all}
 use Rattle.arimaa_board.proofs.MaskLaws.{and_mask, or_mask, not_mask, like_mask}
 use Rattle.std.proofs.lemmas.Bool.{eqb-true}
-use Rattle.arimaa_step.specs.Commuting.{is_of, is_close, is_trap_of, in_zone, commutes, commutes_before, AreEarlier, AreOthers}
+use Rattle.arimaa_step.specs.Commuting.{is_of, is_close, is_trap_of, in_zone, commutes, commutes_before, AreEarlier, AreOthers, AreEndingInOrder}
+use Rattle.arimaa_step.specs.Next.{next_state, goes_alone}
+use Rattle.arimaa_step.proofs.AcceptedLaws.{and_true}
 
 -- the ones below a place
 pub ones_before : (k : ℕ) → IsMaskOf (λ n. nat_lt n k) (2 ^ k - 1)
@@ -90,3 +92,28 @@ others_by_direction st s a n ea so w North = n
 others_by_direction st s a n ea so w East = ea
 others_by_direction st s a n ea so w South = so
 others_by_direction st s a n ea so w West = w
+
+-- some steps in a direction but for the earlier ones
+pub others_of : (test : ℕ → Bool) (s : Step) (d : Dir) (p : Piece) (steps earlier : ℕ) → earlier < 2 ^ 64 → IsMaskOf test steps → IsMaskOf (λ n. commutes_before s (step_of n d p)) earlier → IsMaskOf (λ n. test n && not (commutes_before s (step_of n d p))) (bit_and steps (bit_not w64 earlier))
+others_of test s d p steps earlier fits is_there is_earlier =
+    and_mask test (λ n. not (commutes_before s (step_of n d p))) steps _ is_there (not_mask (λ n. commutes_before s (step_of n d p)) earlier fits is_earlier)
+
+module _ (test : Dir → ℕ → Bool) (s : Step) (a : AcceptedSteps) where
+  abbrev IsOthers : Dir → Type 0
+  IsOthers d = (p : Piece) → IsMaskOf (λ n. test d n && not (commutes_before s (step_of n d p))) (mask_towards a d)
+
+  pub others_each : IsOthers North → IsOthers East → IsOthers South → IsOthers West → (d : Dir) → IsOthers d
+  others_each n ea so w North = n
+  others_each n ea so w East = ea
+  others_each n ea so w South = so
+  others_each n ea so w West = w
+
+-- the steps that end a move after a step, by whether that is a single one
+pub in_order_alone : (st : TurnState) (s : Step) (a : AcceptedSteps) → goes_alone st s ≡ true
+    → ((d : Dir) (p : Piece) → IsMaskOf (λ n. ends_by (next_state st s) d n && not (commutes_before s (step_of n d p))) (mask_towards a d)) → AreEndingInOrder st s a
+in_order_alone st s a alone h d p n small = subst (λ v. bit_at (mask_towards a d) n ≡ bit_of (ends_by (next_state st s) d n && not (v && commutes_before s (step_of n d p)))) (sym alone) (h d p n small)
+
+pub in_order_other : (st : TurnState) (s : Step) (a : AcceptedSteps) → goes_alone st s ≡ false → AreEnding (next_state st s) a → AreEndingInOrder st s a
+in_order_other st s a other h d p n small =
+    subst (λ v. bit_at (mask_towards a d) n ≡ bit_of (ends_by (next_state st s) d n && not (v && commutes_before s (step_of n d p)))) (sym other)
+    (h d n small ∙ sym (ap bit_of (and_true (ends_by (next_state st s) d n))))

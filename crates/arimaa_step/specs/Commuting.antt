@@ -1,6 +1,6 @@
 -- Steps that commute: two single steps that may be made in either order, and lead to the same
 -- board.
-use Rattle.std.specs.Prelude.{◌≡◌, ℕ, ◌+◌, ◌<◌, ◌==◌, Bool, ◌&&◌, ◌||◌, not, IsTrue, Option, None, Some, Result, Ok, is_ok, nat_lt}
+use Rattle.std.specs.Prelude.{◌≡◌, ℕ, ◌<◌, ◌==◌, Bool, ◌&&◌, ◌||◌, not, IsTrue, Ok, is_ok, nat_lt}
 use Rattle.arimaa_board.specs.declared.piece.Color.{Color}
 use Rattle.arimaa_board.specs.declared.piece.Piece.{Piece}
 use Rattle.arimaa_board.specs.declared.square.Dir.{Dir}
@@ -8,7 +8,7 @@ use Rattle.arimaa_board.specs.declared.square.Dir.TheVariants.{North, East, Sout
 use Rattle.arimaa_board.specs.declared.board.Board.{Board}
 use Rattle.arimaa_board.specs.declared.position.Step.{Step}
 use Rattle.arimaa_board.specs.declared.position.Position.{Position}
-use Rattle.arimaa_board.specs.Square.{is_trap, next_square}
+use Rattle.arimaa_board.specs.Square.{is_trap}
 use Rattle.arimaa_board.specs.Board.{settle}
 use Rattle.arimaa_board.specs.Masks.{IsMaskOf, passes, is_beside}
 use Rattle.arimaa_model.specs.Moves.{target, enters, after, is_single}
@@ -16,8 +16,8 @@ use Rattle.arimaa_model.specs.Results.{step_of}
 use Rattle.arimaa_step.specs.declared.state.TurnState.{TurnState}
 use Rattle.arimaa_step.specs.declared.accepted.AcceptedSteps.{AcceptedSteps}
 use Rattle.arimaa_step.specs.declared.commuting.EarlierSteps.{EarlierSteps}
-use Rattle.arimaa_step.specs.Accepted.{accepts, mask_towards}
-use Rattle.arimaa_step.specs.Next.{next_state, next_answer, state_end}
+use Rattle.arimaa_step.specs.Accepted.{accepts, ends_by, mask_towards}
+use Rattle.arimaa_step.specs.Next.{next_state, next_answer, goes_alone, state_end}
 
 -- whether a step leaves or enters a square
 abbrev pub is_of : Step → ℕ → Bool
@@ -61,6 +61,11 @@ AreEarlier s earlier = (d : Dir) (p : Piece) → IsMaskOf (λ n. commutes_before
 -- in each direction the mask has the squares from which the state accepts a step that isn't one of those
 abbrev pub AreOthers : TurnState → Step → AcceptedSteps → Type 0
 AreOthers st s steps = (d : Dir) (p : Piece) → IsMaskOf (λ n. accepts st d n && not (commutes_before s (step_of n d p))) (mask_towards steps d)
+
+-- in each direction the mask has the squares from which a step, of whichever piece, ends a move after
+-- a given step, and doesn't commute with that one, if it is a single step, and come before it
+abbrev pub AreEndingInOrder : TurnState → Step → AcceptedSteps → Type 0
+AreEndingInOrder st s steps = (d : Dir) (p : Piece) → IsMaskOf (λ n. ends_by (next_state st s) d n && not (goes_alone st s && commutes_before s (step_of n d p))) (mask_towards steps d)
 
 -- two steps of a side that were made in this order may be turned round: each is a single step there
 -- too, and the board after both is the same

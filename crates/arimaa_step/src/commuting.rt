@@ -1,13 +1,18 @@
 //! Single steps that commute: two that may be made in either order.
-ghost use Rattle.std.specs.Prelude.{◌≡◌, ◌<◌, ℕ, Bool, ◌&&◌, not, nat_lt};
+ghost use Rattle.std.specs.Prelude.{◌≡◌, ◌<◌, ℕ, Bool, ◌&&◌, not, nat_lt, IsOk};
+ghost use Rattle.arimaa_board.specs.declared.piece.Piece.{Piece};
+ghost use Rattle.arimaa_board.specs.declared.square.Dir.{Dir};
 ghost use Rattle.arimaa_board.specs.Masks.{IsMaskOf, passes};
 ghost use Rattle.arimaa_board.specs.Square.{next_square};
 ghost use Rattle.arimaa_board.specs.declared.position.Step.{Step};
 ghost use Rattle.arimaa_step.specs.declared.state.TurnState.{TurnState};
-ghost use Rattle.arimaa_step.specs.Accepted.{AreAccepted};
-ghost use Rattle.arimaa_step.specs.Commuting.{is_of, is_close, is_trap_of, in_zone, earlier_towards, AreEarlier, AreOthers, StepsCommute, EndsCommute};
+ghost use Rattle.arimaa_step.specs.Accepted.{AreAccepted, mask_towards};
+ghost use Rattle.arimaa_step.specs.Next.{next_answer, next_state};
+ghost use Rattle.arimaa_step.specs.Commuting.{is_of, is_close, is_trap_of, in_zone, earlier_towards, commutes_before, AreEarlier, AreOthers, AreEndingInOrder, StepsCommute, EndsCommute};
+ghost use Rattle.arimaa_model.specs.Results.{step_of};
 
 use crate::accepted::AcceptedSteps;
+use crate::state::TurnState;
 use arimaa_board::{Dir, Square, Step, entering, mask_of, neighbours};
 
 /// The steps that commute with a step and come before it in the order of steps: one mask a
@@ -78,16 +83,40 @@ impl EarlierSteps {
         }
     }
 
-    /// The steps that a state accepts, but for these.
+    /// The steps that a state accepts, or some others, but for these.
+    #[inline(always)]
     pub fn left_out_of(&self, steps: &AcceptedSteps) -> AcceptedSteps
-        ensures { (st : TurnState) (s : Step) → AreAccepted st steps.now → AreEarlier s self.now
-            → AreOthers st s result }
+        ensures accepted { (st : TurnState) (s : Step) → AreAccepted st steps.now
+            → AreEarlier s self.now → AreOthers st s result }
+        ensures others { (test : Dir → ℕ → Bool) (s : Step)
+            → ((d : Dir) → IsMaskOf (test d) (mask_towards steps.now d)) → AreEarlier s self.now
+            → (d : Dir) (p : Piece)
+            → IsMaskOf (λ n. test d n && not (commutes_before s (step_of n d p)))
+            (mask_towards result d) }
     {
         AcceptedSteps {
             north: steps.north & !self.north,
             east: steps.east & !self.east,
             south: steps.south & !self.south,
             west: steps.west & !self.west,
+        }
+    }
+}
+
+impl TurnState {
+    /// The steps that end a move in the state that a step makes of this one, `after`. Where it is a
+    /// single step, those that commute with it and come before it are left out: what they end the
+    /// turn with, both end it with when they are made in the other order.
+    pub fn ending_in_order(&self, step: &Step, after: &TurnState) -> AcceptedSteps
+        requires accepted { IsOk (next_answer self.now step.now) }
+        requires after { after.now ≡ next_state self.now step.now }
+        ensures { AreEndingInOrder self.now step.now result }
+    {
+        let ending = after.ending();
+        if self.made_alone(step) {
+            EarlierSteps::commuting_with(step).left_out_of(&ending)
+        } else {
+            ending
         }
     }
 }

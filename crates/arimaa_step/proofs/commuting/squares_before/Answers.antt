@@ -1,4 +1,4 @@
-use Rattle.std.proofs.Common.{ℕ, ◌≡◌, ◌-◌, ◌<◌, ◌^◌, ◌*◌, ◌%◌, ◌∙◌, ap, sym, subst, arith, pow_pos}
+use Rattle.std.proofs.Common.{◌≡◌, ◌-◌, ◌<◌, ◌^◌, ◌*◌, ◌%◌, sym, subst, arith, pow_pos}
 use Rattle.std.specs.Prelude.{nat_lt}
 use Rattle.std.proofs.lemmas.Nat.{one_shl}
 use Rattle.arimaa_board.specs.Masks.{IsMaskOf}

@@ -1,9 +1,4 @@
-use Rattle.std.proofs.Common.{ℕ, ◌&&◌}
-use Rattle.std.specs.Prelude.{◌||◌}
-use Rattle.arimaa_board.proofs.MaskLaws.{and_mask, or_mask, like_mask}
-use Rattle.arimaa_board.specs.Square.{is_trap}
-use Rattle.arimaa_board.specs.Masks.{IsMaskOf, is_beside}
-use Rattle.arimaa_step.specs.Commuting.{is_of, is_close, is_trap_of, in_zone}
+use Rattle.arimaa_step.specs.Commuting.{is_of, is_trap_of}
 use Rattle.arimaa_step.proofs.TurnedMasks.{close_mask, trap_mask, zone_mask}
 use Rattle.arimaa_step.proofs.commuting.zone_of.Goals as goal
 

@@ -1,0 +1,331 @@
+-- The last steps in order: what they bring about is, in its first occurrences, what all last steps do.
+use Rattle.std.proofs.Common.{◌≡◌, ℕ, suc, ◌<◌, List, [], ◌∷◌, ◌++◌, map, length, Bool, true, false, cond, inl, inr, ⊎_elim, Result, Err, refl, sym, ◌∙◌, ap, subst, arith, append_assoc, append-nil, true≢false}
+use Rattle.std.specs.Prelude.{is_ok}
+use Rattle.std.specs.List.{flat_map, list_any}
+use Rattle.std.proofs.lemmas.Bool.{false_from_ne_true}
+use Rattle.arimaa_board.specs.declared.position.Position.{Position}
+use Rattle.arimaa_board.specs.declared.position.Step.{Step}
+use Rattle.arimaa_board.specs.Board.{settle}
+use Rattle.arimaa_model.specs.Backward.{after_back}
+use Rattle.arimaa_model.specs.declared.fault.TurnFault.{TurnFault}
+use Rattle.arimaa_model.specs.Plain.{candidates}
+use Rattle.arimaa_model.specs.Results.{same_position}
+use Rattle.arimaa_model.proofs.Lists.{flat_map-append, flat_map-agree, flat_map-flat_map}
+use Rattle.arimaa_model.proofs.Members.{In, In-append, In-left, In-right, any-In, flat_map-In, In-flat_map}
+use Rattle.arimaa_model.proofs.Positions.{same_position-Decides}
+use Rattle.arimaa_model.proofs.Pushers.{after_settled}
+use Rattle.arimaa_region.specs.Same.{same_words, same_words-Decides, firsts, with_new}
+use Rattle.arimaa_step.specs.declared.state.TurnState.{TurnState}
+use Rattle.arimaa_step.specs.Next.{next_answer, next_state, state_end}
+use Rattle.arimaa_step.specs.State.{state_of}
+use Rattle.arimaa_step.specs.StateWords.{state_planes, state_in_planes}
+use Rattle.arimaa_step.proofs.LeavingOut.{AreLess, less_none, left_out}
+use Rattle.arimaa_step.proofs.StepOrder.{Rising, candidates-rising, stands_before}
+use Rattle.arimaa_step.proofs.FourthSteps.{ends, after_pair, after_fewer, fourth_less, with_steps, all_pairs}
+use Rattle.arimaa_results.specs.Ahead.{states_by, next_states, given_by, brings_now, brings}
+use Rattle.arimaa_results.specs.LastSteps.{is_next, left_after, brings_first, left_of_kept, brings_last}
+use Rattle.arimaa_results.specs.Layering.{keeps, planes_after, layer, brought_from}
+use Rattle.arimaa_results.specs.NextStates.{pairs_by, next_pairs}
+use Rattle.arimaa_results.proofs.Beginning.{grows_fits}
+use Rattle.arimaa_results.proofs.Bringing.{brings-suc, brings-zero}
+use Rattle.arimaa_results.proofs.Keeping.{with_new-there, with_new-old, with_new-new, In-firsts, one_layer}
+use Rattle.arimaa_results.proofs.Layers.{IsOf, In-next, In-next-grows, layer-of, layer-suc, decoded, decoded-of, opens}
+use Rattle.arimaa_results.proofs.News.{news, firsts-news, new-absent}
+use Rattle.arimaa_results.proofs.StatePairs.{pairs_by-is, states_by-is}
+
+-- a state, and a step that it accepts
+abbrev pub Made : Type 0
+Made = TurnState × Step
+
+abbrev state_made : Made → TurnState
+state_made u = next_state u.0 u.1
+
+-- the words of the state that it makes
+abbrev words : Made → List ℕ
+words u = state_planes (state_made u)
+
+abbrev news_of : List (List ℕ) → List (List ℕ) → List (List ℕ)
+news_of seen ws = news same_words same_words-Decides seen ws
+
+-- a state whose words were seen before is not the next of those that are new
+old_not_next : (seen kept : List (List ℕ)) (st : TurnState) → ((w : List ℕ) → In w kept → In w seen → ⊥) → In (state_planes st) seen → is_next kept st ≡ false
+old_not_next seen [] st new old = refl
+old_not_next seen (v ∷ kept) st new old =
+    false_from_ne_true (same_words v (state_planes st)) (λ e. new v (inl refl) (subst (λ (w : List ℕ). In w seen) (sym ((same_words-Decides v (state_planes st)).0 e)) old))
+
+after_other : (kept : List (List ℕ)) (st : TurnState) → is_next kept st ≡ false → left_after kept st ≡ kept
+after_other [] st other = refl
+after_other (v ∷ kept) st other = ap (λ b. cond b kept (v ∷ kept)) other
+
+module _ (barred : List Position) where
+  abbrev G : Result Position TurnFault → List Position
+  G end = given_by barred end
+
+  pub none : (e : TurnFault) → G (Err e) ≡ []
+  none e = refl
+
+  abbrev Full : Made → List Position
+  Full u = after_pair G none u
+
+  abbrev Fewer : Made → List Position
+  Fewer u = after_fewer G none u
+
+  abbrev pub placed : List (List ℕ) → List Made → List Position
+  placed kept [] = []
+  placed kept (u ∷ us) = cond (is_next kept (state_made u)) (Fewer u) [] ++ placed (left_after kept (state_made u)) us
+
+  module _ (p : Position) where
+    abbrev Decodes : Made → Type 0
+    Decodes u = state_in_planes p (words u) ≡ state_made u
+
+    -- a step after steps before it, among which are those of the same state that come earlier
+    record IsMade (before : List Made) (u : Made) : Type 0 where
+      calm : settle u.0.board ≡ u.0.board
+      few : u.0.count < 3
+      earlier : (t : Step) → In t (candidates u.0.board) → is_ok (next_answer u.0 t) ≡ true → t.from < u.1.from → In (u.0, t) before
+      decodes : Decodes u
+
+    abbrev AreMade : List Made → List Made → Type 0
+    AreMade before [] = Unit {0}
+    AreMade before (u ∷ us) = IsMade before u × AreMade (before ++ u ∷ []) us
+
+    -- seen: the words of states that were made
+    abbrev AreSeen : List Made → List (List ℕ) → Type 0
+    AreSeen before seen = (w : List ℕ) → In w seen → (u : Made) × In u before × (w ≡ words u) × Decodes u
+
+    seen_more : (before : List Made) (u : Made) (seen : List (List ℕ)) → AreSeen before seen → AreSeen (before ++ u ∷ []) seen
+    seen_more before u seen from w i = let f = from w i in (f.0, In-left f.0 before (u ∷ []) f.1, f.2, f.3)
+
+    seen_new : (before : List Made) (u : Made) (seen : List (List ℕ)) → Decodes u → AreSeen before seen → AreSeen (before ++ u ∷ []) (seen ++ words u ∷ [])
+    seen_new before u seen dec from w i =
+        ⊎_elim (λ j. seen_more before u seen from w j)
+        (λ j. ⊎_elim (λ same. (u, In-right u before (u ∷ []) (inl refl), same, dec)) (λ no. absurd no) j)
+        (In-append w seen (words u ∷ []) i)
+
+    -- what is placed is what all steps give, less what stands before
+    less : (before us : List Made) (seen : List (List ℕ)) → AreMade before us → AreSeen before seen → AreLess Full before us (placed (news_of seen (map words us)) us)
+    less before [] seen made from = refl
+    less before (u ∷ us) seen made from =
+        by_test (list_any (same_words (words u)) seen) refl
+        (less (before ++ u ∷ []) us seen made.1 (seen_more before u seen from))
+        (less (before ++ u ∷ []) us (seen ++ words u ∷ []) made.1 (seen_new before u seen made.0.decodes from)) where
+          S : TurnState
+          S = state_made u
+
+          ws : List (List ℕ)
+          ws = map words us
+
+          tail : List (List ℕ)
+          tail = news_of (seen ++ words u ∷ []) ws
+
+          by_test : (v : Bool) → list_any (same_words (words u)) seen ≡ v
+              → AreLess Full (before ++ u ∷ []) us (placed (news_of seen ws) us)
+              → AreLess Full (before ++ u ∷ []) us (placed tail us)
+              → AreLess Full before (u ∷ us) (placed (cond (list_any (same_words (words u)) seen) (news_of seen ws) (words u ∷ tail)) (u ∷ us))
+          by_test true found rest _ =
+              let some = any-In (same_words (words u)) seen found in
+              let there : In (words u) seen = subst (λ (w : List ℕ). In w seen) (sym ((same_words-Decides (words u) some.0).0 some.2)) some.1 in
+              let old = from (words u) there in
+              let one : state_made u ≡ state_made old.0 = sym made.0.decodes ∙ (ap (state_in_planes p) old.2 ∙ old.3) in
+              let other : is_next (news_of seen ws) S ≡ false = old_not_next seen (news_of seen ws) S (λ w i. new-absent same_words same_words-Decides seen ws w i) there in
+              let known : (y : Position) → In y (Full u) → In y (flat_map Full before) = λ y j.
+              flat_map-In Full y old.0 before old.1 (subst (λ st. In y (flat_map (ends G none st) (candidates st.board))) one j) in
+              subst (λ v. AreLess Full before (u ∷ us) (placed (cond v (news_of seen ws) (words u ∷ tail)) (u ∷ us))) (sym found)
+              ([], placed (news_of seen ws) us, (λ i. cond (other i) (Fewer u) [] ++ placed (after_other (news_of seen ws) S other i) us), less_none (flat_map Full before) (Full u) known, rest)
+          by_test false absent _ rest =
+              let same : same_words (words u) (words u) ≡ true = (same_words-Decides (words u) (words u)).1 refl in
+              subst (λ v. AreLess Full before (u ∷ us) (placed (cond v (news_of seen ws) (words u ∷ tail)) (u ∷ us))) (sym absent)
+              (Fewer u, placed tail us, (λ i. cond (same i) (Fewer u) [] ++ placed (cond (same i) tail (words u ∷ tail)) us), fourth_less G none u.0 u.1 before made.0.calm made.0.few made.0.earlier, rest)
+
+    -- ---- every state with each of its steps
+
+    record IsCalm (st : TurnState) : Type 0 where
+      calm : settle st.board ≡ st.board
+      few : st.count < 3
+      decodes : (s : Step) → In s (candidates st.board) → is_ok (next_answer st s) ≡ true → Decodes (st, s)
+
+    abbrev AreAllCalm : List TurnState → Type 0
+    AreAllCalm [] = Unit {0}
+    AreAllCalm (st ∷ sts) = IsCalm st × AreAllCalm sts
+
+    module _ (st : TurnState) (is : IsCalm st) (others : List Made) where
+      steps_made : (before : List Made) (done ts : List Step) → done ++ ts ≡ candidates st.board → ((t : Step) → In t done → is_ok (next_answer st t) ≡ true → In (st, t) before) → AreMade (before ++ with_steps G none st ts) others → AreMade before (with_steps G none st ts ++ others)
+      steps_made before done [] all made rest = subst (λ l. AreMade l others) (append-nil before) rest
+      steps_made before done (s ∷ ts) all made rest = by_answer (is_ok (next_answer st s)) refl rest (λ then new left. steps_made then (done ++ s ∷ []) ts more new left) where
+        X : List Made
+        X = with_steps G none st ts
+
+        more : (done ++ s ∷ []) ++ ts ≡ candidates st.board
+        more = append_assoc done (s ∷ []) ts ∙ all
+
+        here : In s (candidates st.board)
+        here = subst (λ l. In s l) all (In-right s done (s ∷ ts) (inl refl))
+
+        earlier : (t : Step) → In t (candidates st.board) → is_ok (next_answer st t) ≡ true → t.from < s.from → In (st, t) before
+        earlier t i ok low = made t (stands_before done ts s t (subst Rising (sym all) (candidates-rising st.board)) (subst (λ l. In t l) (sym all) i) low) ok
+
+        by_answer : (v : Bool) → is_ok (next_answer st s) ≡ v → AreMade (before ++ cond v ((st, s) ∷ X) X) others
+            → ((then : List Made) → ((t : Step) → In t (done ++ s ∷ []) → is_ok (next_answer st t) ≡ true → In (st, t) then) → AreMade (then ++ X) others → AreMade then (X ++ others))
+            → AreMade before (cond v ((st, s) ∷ X) X ++ others)
+        by_answer true e rest go =
+            let new : (t : Step) → In t (done ++ s ∷ []) → is_ok (next_answer st t) ≡ true → In (st, t) (before ++ (st, s) ∷ []) =
+            λ t i ok. ⊎_elim
+            (λ j. In-left (st, t) before ((st, s) ∷ []) (made t j ok))
+            (λ j. ⊎_elim (λ same. In-right (st, t) before ((st, s) ∷ []) (inl (ap (λ (u : Step). (st, u)) same))) (λ no. absurd no) j)
+            (In-append t done (s ∷ []) i) in
+            let left : AreMade ((before ++ (st, s) ∷ []) ++ X) others = subst (λ l. AreMade l others) (sym (append_assoc before ((st, s) ∷ []) X)) rest in
+            (record { calm = is.calm; few = is.few; earlier = earlier; decodes = is.decodes s here e }, go (before ++ (st, s) ∷ []) new left)
+        by_answer false e rest go =
+            let new : (t : Step) → In t (done ++ s ∷ []) → is_ok (next_answer st t) ≡ true → In (st, t) before =
+            λ t i ok. ⊎_elim
+            (λ j. made t j ok)
+            (λ j. ⊎_elim (λ same. absurd (true≢false (sym ok ∙ (ap (λ (u : Step). is_ok (next_answer st u)) same ∙ e)))) (λ no. absurd no) j)
+            (In-append t done (s ∷ []) i) in
+            go before new rest
+
+    all_made : (before : List Made) (sts : List TurnState) → AreAllCalm sts → AreMade before (all_pairs G none sts)
+    all_made before [] are = tt
+    all_made before (st ∷ sts) are =
+        steps_made st are.0 (all_pairs G none sts) before [] (candidates st.board) refl (λ t i ok. absurd i) (all_made (before ++ with_steps G none st (candidates st.board)) sts are.1)
+
+  -- ---- the same by the lists of states and pairs
+
+  abbrev A : TurnState → Step → Bool
+  A st s = is_ok (next_answer st s)
+
+  -- what a state brings about by its last steps
+  full_brings : (st : TurnState) → flat_map (ends G none st) (candidates st.board) ≡ brings barred 1 st
+  unfolding next_states brings_now
+  full_brings st =
+      sym (brings-suc barred 0 st
+      ∙ (flat_map-flat_map (brings barred 0) (states_by st) (candidates st.board)
+      ∙ flat_map-agree (λ t. flat_map (brings barred 0) (states_by st t)) (ends G none st) (candidates st.board) each)) where
+        each : (t : Step) → flat_map (brings barred 0) (states_by st t) ≡ ends G none st t
+        each t =
+            ap (flat_map (brings barred 0)) (states_by-is st t)
+            ∙ elim (A st t) as (λ v. flat_map (brings barred 0) (cond v (next_state st t ∷ []) []) ≡ cond v (G (state_end (next_state st t))) []) [
+              | true ↦ append-nil (brings barred 0 (next_state st t)) ∙ brings-zero barred (next_state st t)
+              | false ↦ refl
+            ]
+
+  steps_bring : (st : TurnState) (ts : List Step) → flat_map Full (with_steps G none st ts) ≡ flat_map (brings barred 1) (flat_map (states_by st) ts)
+  steps_bring st [] = refl
+  steps_bring st (s ∷ ts) =
+      by_answer (A st s) (steps_bring st ts)
+      ∙ (sym (flat_map-append (brings barred 1) (cond (A st s) (next_state st s ∷ []) []) (flat_map (states_by st) ts))
+      ∙ ap (λ l. flat_map (brings barred 1) (l ++ flat_map (states_by st) ts)) (sym (states_by-is st s))) where
+        X : List Made
+        X = with_steps G none st ts
+
+        by_answer : (v : Bool) → flat_map Full X ≡ flat_map (brings barred 1) (flat_map (states_by st) ts) → flat_map Full (cond v ((st, s) ∷ X) X) ≡ flat_map (brings barred 1) (cond v (next_state st s ∷ []) []) ++ flat_map (brings barred 1) (flat_map (states_by st) ts)
+        by_answer true e = λ i. (full_brings (next_state st s) ∙ sym (append-nil (brings barred 1 (next_state st s)))) i ++ e i
+        by_answer false e = e
+
+  module _ (p : Position) where
+    abbrev D : List ℕ → TurnState
+    D w = state_in_planes p w
+
+    pairs_bring : (ws : List (List ℕ)) → flat_map Full (all_pairs G none (map D ws)) ≡ flat_map (λ w. brings barred 2 (D w)) ws
+    unfolding next_states
+    pairs_bring [] = refl
+    pairs_bring (w ∷ ws) =
+        flat_map-append Full (with_steps G none (D w) (candidates (D w).board)) (all_pairs G none (map D ws))
+        ∙ (λ i. (steps_bring (D w) (candidates (D w).board) ∙ sym (brings-suc barred 1 (D w))) i ++ pairs_bring ws i)
+
+    -- what is placed for the steps of one state, and then for others
+    steps_placed : (st : TurnState) (ts : List Step) (kept : List (List ℕ)) (us : List Made) → placed kept (with_steps G none st ts ++ us) ≡ brings_first barred st kept (flat_map (pairs_by st) ts) ++ placed (left_of_kept kept (flat_map (pairs_by st) ts)) us
+    unfolding brings_first left_of_kept
+    steps_placed st [] kept us = refl
+    steps_placed st (s ∷ ts) kept us =
+        by_answer (A st s) (steps_placed st ts kept us) (steps_placed st ts (left_after kept (next_state st s)) us)
+        ∙ (λ i. both ((sym (pairs_by-is st s)) i)) where
+          S : TurnState
+          S = next_state st s
+
+          rest : List (Step × TurnState)
+          rest = flat_map (pairs_by st) ts
+
+          X : List Made
+          X = with_steps G none st ts
+
+          both : List (Step × TurnState) → List Position
+          both first = brings_first barred st kept (first ++ rest) ++ placed (left_of_kept kept (first ++ rest)) us
+
+          by_answer : (v : Bool) → placed kept (X ++ us) ≡ brings_first barred st kept rest ++ placed (left_of_kept kept rest) us
+              → placed (left_after kept S) (X ++ us) ≡ brings_first barred st (left_after kept S) rest ++ placed (left_of_kept (left_after kept S) rest) us
+              → placed kept (cond v ((st, s) ∷ X) X ++ us) ≡ both (cond v ((s, S) ∷ []) [])
+          by_answer true _ e =
+              ap (λ l. cond (is_next kept S) (Fewer (st, s)) [] ++ l) e
+              ∙ sym (append_assoc (cond (is_next kept S) (Fewer (st, s)) []) (brings_first barred st (left_after kept S) rest) (placed (left_of_kept (left_after kept S) rest) us))
+          by_answer false e _ = e
+
+    pairs_placed : (ws kept : List (List ℕ)) → placed kept (all_pairs G none (map D ws)) ≡ brings_last barred p kept ws
+    unfolding brings_last next_pairs
+    pairs_placed [] kept = refl
+    pairs_placed (w ∷ ws) kept =
+        steps_placed (D w) (candidates (D w).board) kept (all_pairs G none (map D ws))
+        ∙ ap (λ l. brings_first barred (D w) kept (next_pairs (D w)) ++ l) (pairs_placed ws (left_of_kept kept (next_pairs (D w))))
+
+    -- the words of the states that are made
+    steps_words : (st : TurnState) (ts : List Step) (us : List Made) → map words (with_steps G none st ts ++ us) ≡ flat_map keeps (flat_map (states_by st) ts) ++ map words us
+    steps_words st [] us = refl
+    steps_words st (s ∷ ts) us =
+        by_answer (A st s) (steps_words st ts us)
+        ∙ (λ i. flat_map keeps ((sym (states_by-is st s)) i ++ flat_map (states_by st) ts) ++ map words us) where
+          by_answer : (v : Bool) → map words (with_steps G none st ts ++ us) ≡ flat_map keeps (flat_map (states_by st) ts) ++ map words us → map words (cond v ((st, s) ∷ with_steps G none st ts) (with_steps G none st ts) ++ us) ≡ flat_map keeps (cond v (next_state st s ∷ []) [] ++ flat_map (states_by st) ts) ++ map words us
+          by_answer true e = ap (λ l. words (st, s) ∷ l) e
+          by_answer false e = e
+
+    pairs_words : (ws : List (List ℕ)) → map words (all_pairs G none (map D ws)) ≡ flat_map (planes_after p) ws
+    unfolding planes_after next_states
+    pairs_words [] = refl
+    pairs_words (w ∷ ws) =
+        steps_words (D w) (candidates (D w).board) (all_pairs G none (map D ws))
+        ∙ ap (λ l. flat_map keeps (next_states (D w)) ++ l) (pairs_words ws)
+
+    module _ (long : length p.board ≡ 64) where
+      -- the states after two steps
+      calm_at : (w : List ℕ) → In w (layer p 2) → IsCalm p (D w)
+      unfolding planes_after next_states
+      calm_at w i =
+          let j = ⊎_elim (λ no. absurd no) (λ k. k) (In-firsts same_words same_words-Decides w [] (flat_map (planes_after p) (layer p 1)) (subst (λ l. In w l) (layer-suc p 1) i)) in
+          let from = In-flat_map (planes_after p) w (layer p 1) j in
+          let before : IsOf p 1 from.0 = layer-of p long 1 (omega arith) from.0 from.1 in
+          let by = In-flat_map keeps w (next_states (D from.0)) from.2 in
+          let state : D from.0 ≡ state_of p before.0 = decoded-of p long 1 from.0 before (omega arith) in
+          let one = In-next-grows p before.0 by.0 (omega (arith, before.1)) (subst (λ (st : TurnState). In by.0 (next_states st)) state by.1) in
+          let back : List Step = one.0 ∷ before.0 in
+          let count : length back ≡ 2 = ap suc before.1 in
+          let is_words : w ≡ state_planes by.0 = ⊎_elim (λ e. e) (λ no. absurd no) by.2 in
+          let is : D w ≡ state_of p back = ap D (is_words ∙ ap state_planes one.1) ∙ decoded p long back (omega arith) in
+          subst (IsCalm p) (sym is) (record {
+            calm = after_settled (after_back p.board before.0) one.0 (grows_fits p.board p.side one.0 before.0 one.2);
+            few = omega arith;
+            decodes = λ s k ok.
+                let there : In (next_state (state_of p back) s) (next_states (state_of p back)) =
+                flat_map-In (states_by (state_of p back)) (next_state (state_of p back) s) s (candidates (after_back p.board back)) k
+                (subst (λ l. In (next_state (state_of p back) s) l) (sym (states_by-is (state_of p back) s ∙ ap (λ v. cond v (next_state (state_of p back) s ∷ []) []) ok)) (inl refl)) in
+                let next = In-next p back (next_state (state_of p back) s) (omega arith) there in
+                ap (λ st. D (state_planes st)) next.1 ∙ (decoded p long (next.0 ∷ back) (omega arith) ∙ sym next.1);
+          })
+
+      all_calm : (ws : List (List ℕ)) → ((w : List ℕ) → In w ws → In w (layer p 2)) → AreAllCalm p (map D ws)
+      all_calm [] among = tt
+      all_calm (w ∷ ws) among = (calm_at w (among w (inl refl)), all_calm ws (λ v i. among v (inr i)))
+
+      -- what the last steps in order bring about adds what all last steps would
+      pub in_order : (q : List Position) → firsts same_position q (brings_last barred p (layer p 3) (layer p 2)) ≡ firsts same_position q (brought_from barred p 3)
+      in_order q =
+          let us = all_pairs G none (map D (layer p 2)) in
+          let kept : layer p 3 ≡ news_of [] (map words us) =
+          layer-suc p 2 ∙ (firsts-news same_words same_words-Decides [] (flat_map (planes_after p) (layer p 2)) ∙ ap (news_of []) (sym (pairs_words (layer p 2)))) in
+          let some : AreLess Full [] us (placed (news_of [] (map words us)) us) =
+          less p [] us [] (all_made p [] (map D (layer p 2)) (all_calm (layer p 2) (λ w i. i))) (λ w i. absurd i) in
+          let S = same_position in
+          let out : firsts S q (flat_map Full us) ≡ firsts S q (placed (news_of [] (map words us)) us) =
+          left_out (firsts S) (with_new S) (λ l. refl) (λ l xs x. refl) (with_new-there S same_position-Decides) (with_new-old S same_position-Decides) (with_new-new S same_position-Decides) Full us q (placed (news_of [] (map words us)) us) some in
+          ap (firsts S q) (sym (pairs_placed (layer p 2) (layer p 3)) ∙ ap (λ l. placed l us) kept)
+          ∙ (sym out
+          ∙ (ap (firsts S q) (pairs_bring (layer p 2))
+          ∙ (sym (one_layer same_words same_words-Decides S same_position-Decides (λ w. brings barred 1 (D w)) (λ w. brings barred 2 (D w)) (planes_after p) q (layer p 2) (opens p long barred 2 1 (omega arith)))
+          ∙ ap (λ l. firsts S q (flat_map (λ w. brings barred 1 (D w)) l)) (sym (layer-suc p 2)))))

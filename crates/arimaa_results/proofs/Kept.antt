@@ -1,0 +1,119 @@
+-- Reading the kept states one after another, as the steps that make them come again.
+use Rattle.std.proofs.Common.{◌≡◌, ℕ, zero, suc, ◌+◌, ◌<◌, List, [], ◌∷◌, ◌++◌, length, drop, get_or, Bool, true, false, cond, Some, refl, sym, ◌∙◌, ap, subst, arith, true≢false}
+use Rattle.std.specs.Prelude.{◌-◌, ◌≤◌, IsOk, is_ok}
+use Rattle.std.specs.List.{flat_map, slice_get}
+use Rattle.std.proofs.lemmas.List.{at_drop_more, at_drop_all, drop_at}
+use Rattle.std.proofs.lemmas.Option.{get_or_from_slice_get}
+use Rattle.arimaa_board.specs.declared.position.Position.{Position}
+use Rattle.arimaa_board.specs.declared.position.Step.{Step}
+use Rattle.arimaa_model.specs.Plain.{candidates}
+use Rattle.arimaa_step.specs.declared.state.TurnState.{TurnState}
+use Rattle.arimaa_step.specs.Next.{next_answer, next_state}
+use Rattle.arimaa_step.specs.StateWords.{state_in_planes}
+use Rattle.arimaa_region.specs.Segments.{live_of}
+use Rattle.arimaa_results.specs.Layering.{layer, layers_to}
+use Rattle.arimaa_results.proofs.Layers.{layers_to-suc}
+use Rattle.arimaa_results.specs.LastSteps.{is_next, left_after, brings_in_order, brings_first, left_of_kept, brings_last}
+use Rattle.arimaa_results.specs.NextStates.{pairs_by, next_pairs}
+use Rattle.arimaa_results.proofs.StatePairs.{pairs_by-is}
+
+-- what stands at a place is the next value from there on
+pub kept_there : (live : List (List ℕ)) (i : ℕ) (w : List ℕ) → i < length live → slice_get live i ≡ Some w → drop i live ≡ w ∷ drop (i + 1) live
+kept_there live i w inside there =
+    at_drop_more (λ (l : List (List ℕ)). l) live i w inside
+    ∙ ap (λ v. v ∷ drop (i + 1) live) (get_or_from_slice_get live i w w there)
+
+drop_one : (live : List (List ℕ)) (i : ℕ) → drop 1 (drop i live) ≡ drop (suc i) live
+drop_one [] zero = refl
+drop_one [] (suc i) = refl
+drop_one (w ∷ live) zero = refl
+drop_one (w ∷ live) (suc i) = drop_one live i
+
+past : (kept : List (List ℕ)) (st : TurnState) → is_next kept st ≡ true → left_after kept st ≡ drop 1 kept
+past [] st next = absurd (true≢false (sym next))
+past (w ∷ kept) st next = ap (λ v. cond v kept (w ∷ kept)) next
+
+-- past the next one
+pub left_next : (live : List (List ℕ)) (i : ℕ) (st : TurnState) → is_next (drop i live) st ≡ true → left_after (drop i live) st ≡ drop (i + 1) live
+left_next live i st next =
+    let more : suc i ≡ i + 1 = omega arith in
+    past (drop i live) st next ∙ (drop_one live i ∙ ap (λ n. drop n live) more)
+
+pub left_other : (kept : List (List ℕ)) (st : TurnState) → is_next kept st ≡ false → left_after kept st ≡ kept
+left_other [] st other = refl
+left_other (v ∷ kept) st other = ap (λ b. cond b kept (v ∷ kept)) other
+
+module _ (barred : List Position) (st : TurnState) (live : List (List ℕ)) (i : ℕ) (s : Step) (made : TurnState) (pairs left : List (Step × TurnState)) (split : pairs ≡ (s, made) ∷ left) where
+  -- the first step makes the next kept state
+  pub next_brings : is_next (drop i live) made ≡ true → brings_first barred st (drop i live) pairs ≡ brings_in_order barred st s ++ brings_first barred st (drop (i + 1) live) left
+  unfolding brings_first
+  next_brings next =
+      ap (brings_first barred st (drop i live)) split
+      ∙ (λ j. cond (next j) (brings_in_order barred st s) [] ++ brings_first barred st (left_next live i made next j) left)
+
+  pub next_left : is_next (drop i live) made ≡ true → left_of_kept (drop (i + 1) live) left ≡ left_of_kept (drop i live) pairs
+  unfolding left_of_kept
+  next_left next = sym (ap (left_of_kept (drop i live)) split ∙ ap (λ l. left_of_kept l left) (left_next live i made next))
+
+  -- it makes one that was kept before
+  pub other_brings : is_next (drop i live) made ≡ false → brings_first barred st (drop i live) pairs ≡ brings_first barred st (drop i live) left
+  unfolding brings_first
+  other_brings other =
+      ap (brings_first barred st (drop i live)) split
+      ∙ (λ j. cond (other j) (brings_in_order barred st s) [] ++ brings_first barred st (left_other (drop i live) made other j) left)
+
+  pub other_left : is_next (drop i live) made ≡ false → left_of_kept (drop i live) left ≡ left_of_kept (drop i live) pairs
+  unfolding left_of_kept
+  other_left other = sym (ap (left_of_kept (drop i live)) split ∙ ap (λ l. left_of_kept l left) (left_other (drop i live) made other))
+
+pub none_brings : (barred : List Position) (st : TurnState) (kept : List (List ℕ)) (pairs : List (Step × TurnState)) → pairs ≡ [] → brings_first barred st kept pairs ≡ []
+unfolding brings_first
+none_brings barred st kept pairs none = ap (brings_first barred st kept) none
+
+pub none_left : (kept : List (List ℕ)) (pairs : List (Step × TurnState)) → pairs ≡ [] → left_of_kept kept pairs ≡ kept
+unfolding left_of_kept
+none_left kept pairs none = ap (left_of_kept kept) none
+
+-- each step is accepted, and its state is the one that it makes
+abbrev pub AreMadeBy : TurnState → List (Step × TurnState) → Type 0
+AreMadeBy st [] = Unit {0}
+AreMadeBy st (pr ∷ pairs) = (IsOk (next_answer st pr.0) × (pr.1 ≡ next_state st pr.0)) × AreMadeBy st pairs
+
+made_by : (st : TurnState) (ts : List Step) → AreMadeBy st (flat_map (pairs_by st) ts)
+made_by st [] = tt
+made_by st (s ∷ ts) = subst (λ l. AreMadeBy st (l ++ flat_map (pairs_by st) ts)) (sym (pairs_by-is st s)) (by_answer (is_ok (next_answer st s)) refl (made_by st ts)) where
+  by_answer : (v : Bool) → is_ok (next_answer st s) ≡ v → AreMadeBy st (flat_map (pairs_by st) ts) → AreMadeBy st (cond v ((s, next_state st s) ∷ []) [] ++ flat_map (pairs_by st) ts)
+  by_answer true e rest = ((e, refl), rest)
+  by_answer false e rest = rest
+
+pub all_made_by : (st : TurnState) (pairs : List (Step × TurnState)) → pairs ≡ next_pairs st → AreMadeBy st pairs
+unfolding next_pairs
+all_made_by st pairs all = subst (AreMadeBy st) (sym all) (made_by st (candidates st.board))
+
+pub first_made_by : (st : TurnState) (pairs left : List (Step × TurnState)) (s : Step) (made : TurnState) → pairs ≡ (s, made) ∷ left → AreMadeBy st pairs → (IsOk (next_answer st s) × (made ≡ next_state st s)) × AreMadeBy st left
+first_made_by st pairs left s made split are = subst (AreMadeBy st) split are
+
+-- the kept states of the third layer, from its first place on
+pub kept_start : (p : Position) (third : ℕ) (segments : List (List (List ℕ))) → segments ≡ layers_to p 3 → third ≡ length (live_of (layers_to p 2)) → drop third (live_of segments) ≡ layer p 3
+kept_start p third segments stands begins =
+    ap (λ s. drop third (live_of s)) (stands ∙ layers_to-suc p 2)
+    ∙ drop_at (live_of (layers_to p 2)) (layer p 3) third (sym begins)
+
+module _ (barred : List Position) (p : Position) where
+  pub last_start : (second : ℕ) (kept all : List (List ℕ)) (ws : List (List ℕ)) → kept ≡ all → brings_last barred p kept (drop (second - second) ws) ≡ brings_last barred p all ws
+  last_start second kept all ws is =
+      let none : second - second ≡ 0 = omega arith in
+      λ i. brings_last barred p (is i) (drop (none i) ws)
+
+  -- the last steps after one state, and then after the others
+  pub last_split : (kept after ws : List (List ℕ)) (i : ℕ) (w : List ℕ) (st : TurnState) → i < length ws → st ≡ state_in_planes p (get_or ws i w) → after ≡ left_of_kept kept (next_pairs st)
+      → brings_last barred p kept (drop i ws) ≡ brings_first barred st kept (next_pairs st) ++ brings_last barred p after (drop (i + 1) ws)
+  unfolding brings_last
+  last_split kept after ws i w st inside is left =
+      at_drop_more (brings_last barred p kept) ws i w inside
+      ∙ sym (ap (λ l. brings_first barred st kept (next_pairs st) ++ brings_last barred p l (drop (i + 1) ws)) left
+      ∙ ap (λ s. brings_first barred s kept (next_pairs s) ++ brings_last barred p (left_of_kept kept (next_pairs s)) (drop (i + 1) ws)) is)
+
+  pub last_end : (kept ws : List (List ℕ)) (i : ℕ) → length ws ≤ i → brings_last barred p kept (drop i ws) ≡ []
+  unfolding brings_last
+  last_end kept ws i past = at_drop_all (brings_last barred p kept) ws i past
