@@ -13,6 +13,7 @@ use std::test::Fail;
 // of Silver's and of the spawner, and the text of the match. `open` stands for the two lines that
 // open a session, `G` and `S` for the setups below, `H` for Silver's other setup, `long` for a line
 // that is too long, and `noise` for 10,000 lines that say nothing.
+#[derive(Clone, Copy)]
 struct Row {
     gold: &'static [&'static str],
     silver: &'static [&'static str],
@@ -33,404 +34,262 @@ const APART: &str = "Ra1 Rb1 Cc1 Dd1 De1 Rf1 Mg1 Hh1 Ra2 Rb2 Cc2 Rd2 Re2 Hf2 Rg2
 
 const NONE: [&[u64]; 3] = [&[], &[], &[]];
 
+// A match under the control `1/5`, in which no call fails and no time passes.
+fn row(
+    gold: &'static [&'static str],
+    silver: &'static [&'static str],
+    text: &'static [&'static str],
+) -> Row {
+    Row {
+        gold,
+        silver,
+        control: "1/5",
+        moments: &[],
+        fails: NONE,
+        text,
+    }
+}
+
+impl Row {
+    // The match in which these calls fail of Gold's port, of Silver's and of the spawner.
+    fn failing(self, gold: &'static [u64], silver: &'static [u64], spawner: &'static [u64]) -> Row {
+        Row {
+            fails: [gold, silver, spawner],
+            ..self
+        }
+    }
+
+    // The match under this control, at these moments.
+    fn timed(self, control: &'static str, moments: &'static [u64]) -> Row {
+        Row {
+            control,
+            moments,
+            ..self
+        }
+    }
+}
+
 // Faults while programs are started and sessions opened.
-const OPENINGS: [Row; 13] = [
-    Row {
-        gold: &[],
-        silver: &[],
-        control: "1/5",
-        moments: &[],
-        fails: [&[], &[], &[1]],
-        text: &["# engine gold failed"],
-    },
-    Row {
-        gold: &["open"],
-        silver: &[],
-        control: "1/5",
-        moments: &[],
-        fails: [&[], &[], &[2]],
-        text: &["# engine silver failed"],
-    },
-    Row {
-        gold: &[],
-        silver: &["open"],
-        control: "1/5",
-        moments: &[],
-        fails: NONE,
-        text: &["# engine gold ended"],
-    },
-    Row {
-        gold: &["open"],
-        silver: &[],
-        control: "1/5",
-        moments: &[],
-        fails: NONE,
-        text: &["# engine silver ended"],
-    },
-    Row {
-        gold: &["aeiok", "long"],
-        silver: &["open"],
-        control: "1/5",
-        moments: &[],
-        fails: NONE,
-        text: &["# engine gold long"],
-    },
-    Row {
-        gold: &["open"],
-        silver: &["aeiok", "long"],
-        control: "1/5",
-        moments: &[],
-        fails: NONE,
-        text: &["# engine silver long"],
-    },
-    Row {
-        gold: &["noise", "open"],
-        silver: &["open"],
-        control: "1/5",
-        moments: &[],
-        fails: NONE,
-        text: &["# engine gold silent"],
-    },
-    Row {
-        gold: &["open"],
-        silver: &["aeiok", "noise"],
-        control: "1/5",
-        moments: &[],
-        fails: NONE,
-        text: &["# engine silver silent"],
-    },
-    Row {
-        gold: &["protocol-version 2", "open"],
-        silver: &["open"],
-        control: "1/5",
-        moments: &[],
-        fails: NONE,
-        text: &["# engine gold version"],
-    },
-    Row {
-        gold: &["open"],
-        silver: &["protocol-version 2", "open"],
-        control: "1/5",
-        moments: &[],
-        fails: NONE,
-        text: &["# engine silver version"],
-    },
-    Row {
-        gold: &["open"],
-        silver: &["open"],
-        control: "1/5",
-        moments: &[],
-        fails: [&[1], &[], &[]],
-        text: &["# engine gold failed"],
-    },
-    Row {
-        gold: &["open"],
-        silver: &["open"],
-        control: "1/5",
-        moments: &[],
-        fails: [&[11], &[], &[]],
-        text: &["# engine gold failed"],
-    },
-    Row {
-        gold: &["open"],
-        silver: &["open"],
-        control: "1/5",
-        moments: &[],
-        fails: [&[], &[4], &[]],
-        text: &["# engine silver failed"],
-    },
-];
+fn opening_rows() -> [Row; 13] {
+    [
+        row(&[], &[], &["# engine gold failed"]).failing(&[], &[], &[1]),
+        row(&["open"], &[], &["# engine silver failed"]).failing(&[], &[], &[2]),
+        row(&[], &["open"], &["# engine gold ended"]),
+        row(&["open"], &[], &["# engine silver ended"]),
+        row(&["aeiok", "long"], &["open"], &["# engine gold long"]),
+        row(&["open"], &["aeiok", "long"], &["# engine silver long"]),
+        row(&["noise", "open"], &["open"], &["# engine gold silent"]),
+        row(&["open"], &["aeiok", "noise"], &["# engine silver silent"]),
+        row(
+            &["protocol-version 2", "open"],
+            &["open"],
+            &["# engine gold version"],
+        ),
+        row(
+            &["open"],
+            &["protocol-version 2", "open"],
+            &["# engine silver version"],
+        ),
+        row(&["open"], &["open"], &["# engine gold failed"]).failing(&[1], &[], &[]),
+        row(&["open"], &["open"], &["# engine gold failed"]).failing(&[11], &[], &[]),
+        row(&["open"], &["open"], &["# engine silver failed"]).failing(&[], &[4], &[]),
+    ]
+}
 
 // Faults of sessions while a match goes on: the reserves, `go`, the answer, and what was booked.
-const BREAKS: [Row; 12] = [
-    Row {
-        gold: &["open", "G"],
-        silver: &["open"],
-        control: "1/5",
-        moments: &[],
-        fails: [&[14], &[], &[]],
-        text: &["1g", "# engine gold failed"],
-    },
-    Row {
-        gold: &["open", "G"],
-        silver: &["open"],
-        control: "1/5",
-        moments: &[],
-        fails: [&[16], &[], &[]],
-        text: &["1g", "# engine gold failed"],
-    },
-    Row {
-        gold: &["open", "G"],
-        silver: &["open"],
-        control: "1/5",
-        moments: &[],
-        fails: [&[17], &[], &[]],
-        text: &["1g", "# engine gold failed"],
-    },
-    Row {
-        gold: &["open", "G"],
-        silver: &["open"],
-        control: "1/5",
-        moments: &[],
-        fails: [&[18], &[], &[]],
-        text: &["1g G", "1s", "# engine gold failed"],
-    },
-    Row {
-        gold: &["open", "G"],
-        silver: &["open"],
-        control: "1/5",
-        moments: &[],
-        fails: [&[], &[14], &[]],
-        text: &["1g G", "1s", "# engine silver failed"],
-    },
-    Row {
-        gold: &["open"],
-        silver: &["open"],
-        control: "1/5",
-        moments: &[],
-        fails: NONE,
-        text: &["1g", "# engine gold ended"],
-    },
-    Row {
-        gold: &["open", "long"],
-        silver: &["open"],
-        control: "1/5",
-        moments: &[],
-        fails: NONE,
-        text: &["1g", "# engine gold long"],
-    },
-    Row {
-        gold: &["open", "noise", "G"],
-        silver: &["open"],
-        control: "1/5",
-        moments: &[],
-        fails: NONE,
-        text: &["1g", "# engine gold silent"],
-    },
-    Row {
-        gold: &["open", "G"],
-        silver: &["open"],
-        control: "1/5",
-        moments: &[],
-        fails: NONE,
-        text: &["1g G", "1s", "# engine silver ended"],
-    },
-    Row {
-        gold: &["open", "G"],
-        silver: &["open", "long"],
-        control: "1/5",
-        moments: &[],
-        fails: NONE,
-        text: &["1g G", "1s", "# engine silver long"],
-    },
-    Row {
-        gold: &["open", "G"],
-        silver: &["open", "noise"],
-        control: "1/5",
-        moments: &[],
-        fails: NONE,
-        text: &["1g G", "1s", "# engine silver silent"],
-    },
-    Row {
-        gold: &["open", "G", "Cc2n"],
-        silver: &["open", "S"],
-        control: "1/5",
-        moments: &[],
-        fails: NONE,
-        text: &[
-            "1g G",
-            "1s S",
-            "2g Cc2n Cc3x",
-            "2s",
-            "# engine silver ended",
-        ],
-    },
-];
+fn break_rows() -> [Row; 12] {
+    [
+        row(&["open", "G"], &["open"], &["1g", "# engine gold failed"]).failing(&[14], &[], &[]),
+        row(&["open", "G"], &["open"], &["1g", "# engine gold failed"]).failing(&[16], &[], &[]),
+        row(&["open", "G"], &["open"], &["1g", "# engine gold failed"]).failing(&[17], &[], &[]),
+        row(
+            &["open", "G"],
+            &["open"],
+            &["1g G", "1s", "# engine gold failed"],
+        )
+        .failing(&[18], &[], &[]),
+        row(
+            &["open", "G"],
+            &["open"],
+            &["1g G", "1s", "# engine silver failed"],
+        )
+        .failing(&[], &[14], &[]),
+        row(&["open"], &["open"], &["1g", "# engine gold ended"]),
+        row(&["open", "long"], &["open"], &["1g", "# engine gold long"]),
+        row(
+            &["open", "noise", "G"],
+            &["open"],
+            &["1g", "# engine gold silent"],
+        ),
+        row(
+            &["open", "G"],
+            &["open"],
+            &["1g G", "1s", "# engine silver ended"],
+        ),
+        row(
+            &["open", "G"],
+            &["open", "long"],
+            &["1g G", "1s", "# engine silver long"],
+        ),
+        row(
+            &["open", "G"],
+            &["open", "noise"],
+            &["1g G", "1s", "# engine silver silent"],
+        ),
+        row(
+            &["open", "G", "Cc2n"],
+            &["open", "S"],
+            &[
+                "1g G",
+                "1s S",
+                "2g Cc2n Cc3x",
+                "2s",
+                "# engine silver ended",
+            ],
+        ),
+    ]
+}
 
 // Matches that are won by an answer.
-const WINS: [Row; 10] = [
-    Row {
-        gold: &["open", "G", "Cc2n"],
-        silver: &["open", "S", "ed7n"],
-        control: "1/5",
-        moments: &[],
-        fails: NONE,
-        text: &[
-            "1g G",
-            "1s S",
-            "2g Cc2n Cc3x",
-            "2s",
-            "# winner gold illegal",
-        ],
-    },
-    Row {
-        gold: &["open", "G", "Cc2n Cc3x"],
-        silver: &["open", "S", "resigns"],
-        control: "1/5",
-        moments: &[],
-        fails: NONE,
-        text: &[
-            "1g G",
-            "1s S",
-            "2g Cc2n Cc3x",
-            "2s resigns",
-            "# winner gold resign",
-        ],
-    },
-    Row {
-        gold: &["open", "G", "Cc2n Cf3x"],
-        silver: &["open", "S"],
-        control: "1/5",
-        moments: &[],
-        fails: NONE,
-        text: &["1g G", "1s S", "2g", "# winner silver illegal"],
-    },
-    Row {
-        gold: &["open", "Ra1 Rb1"],
-        silver: &["open"],
-        control: "1/5",
-        moments: &[],
-        fails: NONE,
-        text: &["1g", "# winner silver illegal"],
-    },
-    Row {
-        gold: &["open", "S"],
-        silver: &["open"],
-        control: "1/5",
-        moments: &[],
-        fails: NONE,
-        text: &["1g", "# winner silver illegal"],
-    },
-    Row {
-        gold: &["open", "G"],
-        silver: &["open", "G"],
-        control: "1/5",
-        moments: &[],
-        fails: NONE,
-        text: &["1g G", "1s", "# winner gold illegal"],
-    },
-    Row {
-        gold: &["open", "resign"],
-        silver: &["open"],
-        control: "1/5",
-        moments: &[],
-        fails: NONE,
-        text: &["1g resigns", "# winner silver resign"],
-    },
-    Row {
-        gold: &["open", "G"],
-        silver: &["open", "resign"],
-        control: "1/5",
-        moments: &[],
-        fails: NONE,
-        text: &["1g G", "1s resigns", "# winner gold resign"],
-    },
-    Row {
-        gold: &["open", "G", "Ra2n", "Ra3n", "Ra4n Ra5n Ra6n Ra7n"],
-        silver: &["open", "H", "ra7s ra6s ra5e", "ra8s ra7s ra6e"],
-        control: "1/5",
-        moments: &[],
-        fails: NONE,
-        text: &[
-            "1g G",
-            "1s H",
-            "2g Ra2n",
-            "2s ra7s ra6s ra5e",
-            "3g Ra3n",
-            "3s ra8s ra7s ra6e",
-            "4g Ra4n Ra5n Ra6n Ra7n",
-            "# winner gold goal",
-        ],
-    },
-    Row {
-        gold: &["open", "G", "Ee2n", "Ee3s", "Ee2n", "Ee3s"],
-        silver: &["open", "S", "ed7s", "ed6n", "ed7s", "ed6n"],
-        control: "1/5",
-        moments: &[],
-        fails: NONE,
-        text: &[
-            "1g G",
-            "1s S",
-            "2g Ee2n",
-            "2s ed7s",
-            "3g Ee3s",
-            "3s ed6n",
-            "4g Ee2n",
-            "4s ed7s",
-            "5g Ee3s",
-            "5s",
-            "# winner gold illegal",
-        ],
-    },
-];
+fn win_rows() -> [Row; 10] {
+    [
+        row(
+            &["open", "G", "Cc2n"],
+            &["open", "S", "ed7n"],
+            &[
+                "1g G",
+                "1s S",
+                "2g Cc2n Cc3x",
+                "2s",
+                "# winner gold illegal",
+            ],
+        ),
+        row(
+            &["open", "G", "Cc2n Cc3x"],
+            &["open", "S", "resigns"],
+            &[
+                "1g G",
+                "1s S",
+                "2g Cc2n Cc3x",
+                "2s resigns",
+                "# winner gold resign",
+            ],
+        ),
+        row(
+            &["open", "G", "Cc2n Cf3x"],
+            &["open", "S"],
+            &["1g G", "1s S", "2g", "# winner silver illegal"],
+        ),
+        row(
+            &["open", "Ra1 Rb1"],
+            &["open"],
+            &["1g", "# winner silver illegal"],
+        ),
+        row(
+            &["open", "S"],
+            &["open"],
+            &["1g", "# winner silver illegal"],
+        ),
+        row(
+            &["open", "G"],
+            &["open", "G"],
+            &["1g G", "1s", "# winner gold illegal"],
+        ),
+        row(
+            &["open", "resign"],
+            &["open"],
+            &["1g resigns", "# winner silver resign"],
+        ),
+        row(
+            &["open", "G"],
+            &["open", "resign"],
+            &["1g G", "1s resigns", "# winner gold resign"],
+        ),
+        row(
+            &["open", "G", "Ra2n", "Ra3n", "Ra4n Ra5n Ra6n Ra7n"],
+            &["open", "H", "ra7s ra6s ra5e", "ra8s ra7s ra6e"],
+            &[
+                "1g G",
+                "1s H",
+                "2g Ra2n",
+                "2s ra7s ra6s ra5e",
+                "3g Ra3n",
+                "3s ra8s ra7s ra6e",
+                "4g Ra4n Ra5n Ra6n Ra7n",
+                "# winner gold goal",
+            ],
+        ),
+        row(
+            &["open", "G", "Ee2n", "Ee3s", "Ee2n", "Ee3s"],
+            &["open", "S", "ed7s", "ed6n", "ed7s", "ed6n"],
+            &[
+                "1g G",
+                "1s S",
+                "2g Ee2n",
+                "2s ed7s",
+                "3g Ee3s",
+                "3s ed6n",
+                "4g Ee2n",
+                "4s ed7s",
+                "5g Ee3s",
+                "5s",
+                "# winner gold illegal",
+            ],
+        ),
+    ]
+}
 
 // Matches that the time or a limit ends.
-const TIMES: [Row; 8] = [
-    Row {
-        gold: &["open", "G"],
-        silver: &["open", "resign"],
-        control: "0:01/0:02",
-        moments: &[0, 3_000],
-        fails: NONE,
-        text: &["1g G", "1s resigns", "# winner gold resign"],
-    },
-    Row {
-        gold: &["open", "G"],
-        silver: &["open"],
-        control: "0:01/0:02",
-        moments: &[0, 3_001],
-        fails: NONE,
-        text: &["1g time", "# winner silver time"],
-    },
-    Row {
-        gold: &["open", "resign"],
-        silver: &["open"],
-        control: "0:01/0:02",
-        moments: &[0, 3_001],
-        fails: NONE,
-        text: &["1g time", "# winner silver time"],
-    },
-    Row {
-        gold: &["open", "G"],
-        silver: &["open", "S"],
-        control: "0:01/0:02",
-        moments: &[0, 0, 5, 3_006],
-        fails: NONE,
-        text: &["1g G", "1s time", "# winner gold time"],
-    },
-    Row {
-        gold: &["open", "G"],
-        silver: &["open"],
-        control: "1/5/100/0/0/0:04",
-        moments: &[7, 4_008],
-        fails: NONE,
-        text: &["1g time", "# winner silver time"],
-    },
-    Row {
-        gold: &["open", "G", "Ra2n"],
-        silver: &["open", "S"],
-        control: "1/5/100/0/1t",
-        moments: &[],
-        fails: NONE,
-        text: &["1g G", "1s S", "2g Ra2n", "2s", "# limit"],
-    },
-    Row {
-        gold: &["open", "G"],
-        silver: &["open"],
-        control: "5/5/100/0/0:01",
-        moments: &[0, 60_000],
-        fails: NONE,
-        text: &["1g G", "1s", "# limit"],
-    },
-    Row {
-        gold: &["open", "G"],
-        silver: &["open", "resign"],
-        control: "5/5/100/0/0:01",
-        moments: &[0, 59_999],
-        fails: NONE,
-        text: &["1g G", "1s resigns", "# winner gold resign"],
-    },
-];
+fn time_rows() -> [Row; 8] {
+    [
+        row(
+            &["open", "G"],
+            &["open", "resign"],
+            &["1g G", "1s resigns", "# winner gold resign"],
+        )
+        .timed("0:01/0:02", &[0, 3_000]),
+        row(
+            &["open", "G"],
+            &["open"],
+            &["1g time", "# winner silver time"],
+        )
+        .timed("0:01/0:02", &[0, 3_001]),
+        row(
+            &["open", "resign"],
+            &["open"],
+            &["1g time", "# winner silver time"],
+        )
+        .timed("0:01/0:02", &[0, 3_001]),
+        row(
+            &["open", "G"],
+            &["open", "S"],
+            &["1g G", "1s time", "# winner gold time"],
+        )
+        .timed("0:01/0:02", &[0, 0, 5, 3_006]),
+        row(
+            &["open", "G"],
+            &["open"],
+            &["1g time", "# winner silver time"],
+        )
+        .timed("1/5/100/0/0/0:04", &[7, 4_008]),
+        row(
+            &["open", "G", "Ra2n"],
+            &["open", "S"],
+            &["1g G", "1s S", "2g Ra2n", "2s", "# limit"],
+        )
+        .timed("1/5/100/0/1t", &[]),
+        row(&["open", "G"], &["open"], &["1g G", "1s", "# limit"]).timed(
+            "5/5/100/0/0:01",
+            &[0, 60_000],
+        ),
+        row(
+            &["open", "G"],
+            &["open", "resign"],
+            &["1g G", "1s resigns", "# winner gold resign"],
+        )
+        .timed("5/5/100/0/0:01", &[0, 59_999]),
+    ]
+}
 
 // A match whose setups and turns are all lawful until the rules end it: what the engines say, how
 // many setups and turns are booked, and the last line of its text. `T` stands for the setup above.
@@ -685,28 +544,28 @@ fn wrong_row(alloc: Global, rows: &[Row]) -> Result<Option<usize>, AllocError> {
 
 #[test]
 fn openings(rt: HostRuntime) -> Result<(), Fail> {
-    let wrong = wrong_row(rt.alloc(), &OPENINGS)?;
+    let wrong = wrong_row(rt.alloc(), &opening_rows())?;
     assert!(rt; wrong.is_none(), "{wrong:?}");
     Ok(())
 }
 
 #[test]
 fn breaks(rt: HostRuntime) -> Result<(), Fail> {
-    let wrong = wrong_row(rt.alloc(), &BREAKS)?;
+    let wrong = wrong_row(rt.alloc(), &break_rows())?;
     assert!(rt; wrong.is_none(), "{wrong:?}");
     Ok(())
 }
 
 #[test]
 fn wins(rt: HostRuntime) -> Result<(), Fail> {
-    let wrong = wrong_row(rt.alloc(), &WINS)?;
+    let wrong = wrong_row(rt.alloc(), &win_rows())?;
     assert!(rt; wrong.is_none(), "{wrong:?}");
     Ok(())
 }
 
 #[test]
 fn times(rt: HostRuntime) -> Result<(), Fail> {
-    let wrong = wrong_row(rt.alloc(), &TIMES)?;
+    let wrong = wrong_row(rt.alloc(), &time_rows())?;
     assert!(rt; wrong.is_none(), "{wrong:?}");
     Ok(())
 }
