@@ -1,7 +1,9 @@
 #!/usr/bin/env bash
 # Judges a record of 64 MiB: one start line, and then a lawful game of some 4.7 million turns in which no
 # position stands twice. Prints the processor time and the peak memory of the program and of `wc -l`, and of
-# the yardstick, plain Rust that does the same, where it lies beside the repository.
+# the yardstick, plain Rust that does the same, where it lies beside the repository. The line `memory judge VALUE`
+# gives the bytes that the program holds for a turn, 1 MiB left out for all else: the record is judged as it is read,
+# and its bytes are not held.
 #
 #   bench/judge.sh [BYTES] [RUNS]
 #
@@ -28,6 +30,8 @@ if [ -x "$yardstick" ]; then
   commands+=("$yardstick judge")
 fi
 measure "$record" "$runs"
+awk -v peak="${peaks[0]}" -v lines="$(wc -l <"$record")" \
+  'BEGIN { printf "memory judge %.1f\n", (peak - 1) * 1048576 / (lines - 1) }'
 if [ -x "$yardstick" ]; then
   ratio judge "${least[2]}" "${least[0]}"
 fi

@@ -1,7 +1,7 @@
 # Measures commands with a record as their input. Other scripts read this file; it runs nothing by itself.
 #
 # names=(..) and commands=(..) say what is measured; `measure` prints a line for each, and leaves the least
-# processor times in least=(..).
+# processor times in least=(..) and the peaks of memory in peaks=(..).
 
 # Runs a command with the record, and prints its processor seconds.
 processor_seconds() {
@@ -27,6 +27,7 @@ measure() {
   record=$1
   local runs=$2 run k now
   least=()
+  peaks=()
   for ((run = 0; run < runs; run++)); do
     for k in "${!commands[@]}"; do
       now=$(processor_seconds ${commands[k]})
@@ -34,8 +35,9 @@ measure() {
     done
   done
   for k in "${!commands[@]}"; do
+    peaks[k]=$(peak_memory ${commands[k]})
     printf '  %s: %s processor seconds, %s MiB at most\n' \
-      "${names[k]}" "${least[k]}" "$(peak_memory ${commands[k]})"
+      "${names[k]}" "${least[k]}" "${peaks[k]}"
     sed 's/^/    /' "$record.out" | head -3
   done
 }

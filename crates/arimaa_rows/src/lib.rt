@@ -7,6 +7,8 @@ mod faults;
 #[cfg(test)]
 mod matches;
 #[cfg(test)]
+mod pieces;
+#[cfg(test)]
 mod questions;
 #[cfg(test)]
 mod records;
