@@ -14,6 +14,8 @@ use Rattle.arimaa_cli.specs.declared.answer.Answer.{Answer}
 use Rattle.arimaa_cli.specs.declared.answer.Refusal.TheVariants.{Words, TooLong}
 use Rattle.arimaa_cli.specs.declared.commands.make.TheConstants.{MOST_MADE}
 use Rattle.arimaa_cli.specs.declared.commands.prove.TheConstants.{MOST_TURNS}
+use Rattle.arimaa_cli.specs.declared.commands.Asking.{Asking}
+use Rattle.arimaa_cli.specs.declared.commands.Asking.TheVariants as asking
 use Rattle.arimaa_cli.specs.declared.commands.Call.{Call}
 use Rattle.arimaa_cli.specs.declared.commands.Call.TheVariants.{Run, RunProve, RunStill}
 use Rattle.arimaa_cli.specs.declared.commands.Command.{Command}
@@ -24,7 +26,7 @@ use Rattle.arimaa_cli.specs.declared.commands.prove.Asked.{Asked}
 use Rattle.arimaa_cli.specs.declared.record.Game.{Game}
 use Rattle.arimaa_cli.specs.Answer.{Found}
 use Rattle.arimaa_cli.specs.Options.{AreOptions}
-use Rattle.arimaa_cli.specs.Records.{IsRecordAnswer}
+use Rattle.arimaa_cli.specs.Records.{IsAnswerAbout, IsRecord, IsRecordAnswer}
 use Rattle.arimaa_cli.specs.Commands.Check.{IsCheckAnswer, IsRoomGiven, room_words}
 use Rattle.arimaa_cli.specs.Commands.Control.{IsControlAnswer}
 use Rattle.arimaa_cli.specs.Commands.Judge.{IsJudgeAnswer}
@@ -129,6 +131,30 @@ IsAnswerOf given (command.Prove asked) a = IsRecordAnswer given (IsProveAnswer a
 IsAnswerOf given (command.Check asked) a = IsCheckAnswer asked given a
 IsAnswerOf given (command.Control text) a = IsControlAnswer text a
 IsAnswerOf given (command.Make asked) a = IsMakeAnswer asked a
+
+-- the command that is asked
+abbrev pub command_of : Asking → Command
+command_of (asking.About q found) = command.About q
+command_of (asking.Prove asked found) = command.Prove asked
+command_of (asking.Check asked bytes) = command.Check asked
+command_of (asking.Control text) = command.Control text
+command_of (asking.Make asked) = command.Make asked
+
+-- what is asked is asked about an input of these bytes
+abbrev pub IsAbout : List ℕ → Asking → Type 0
+IsAbout given (asking.About q found) = IsRecord given found
+IsAbout given (asking.Prove asked found) = IsRecord given found
+IsAbout given (asking.Check asked bytes) = bytes.items ≡ given
+IsAbout given (asking.Control text) = Unit {0}
+IsAbout given (asking.Make asked) = Unit {0}
+
+-- what is answered where this is asked
+abbrev pub IsAnswerTo : Asking → Answer → Type 0
+IsAnswerTo (asking.About q found) a = IsAnswerAbout (IsGameAnswer q) found a
+IsAnswerTo (asking.Prove asked found) a = IsAnswerAbout (IsProveAnswer asked) found a
+IsAnswerTo (asking.Check asked bytes) a = IsCheckAnswer asked bytes.items a
+IsAnswerTo (asking.Control text) a = IsControlAnswer text a
+IsAnswerTo (asking.Make asked) a = IsMakeAnswer asked a
 
 -- what a call finds for words over an input of these bytes, the first of these that applies
 pub data IsAnswer (call : Call) (words : List (List ℕ)) (given : List ℕ) : Found → Type 0 where

@@ -28,6 +28,11 @@ abbrev pub IsRecord : List ℕ → Record → Type 0
 IsRecord given (Bad text) = IsBad given text
 IsRecord given (Lawful game) = IsGame given game
 
+-- what is answered about a record where this is what is answered about a lawful record's game: the first fault of a bad one
+abbrev pub IsAnswerAbout : (Game → Answer → Type 0) → Record → Answer → Type 0
+IsAnswerAbout IsAnswered (Bad text) a = a ≡ Answered text
+IsAnswerAbout IsAnswered (Lawful game) a = IsAnswered game a
+
 -- what is answered over an input of these bytes where this is what is answered about a lawful record's game
 pub data IsRecordAnswer (given : List ℕ) (IsAnswered : Game → Answer → Type 0) : Answer → Type 0 where
   -- a bad record: its first fault

@@ -1,5 +1,3 @@
-use Rattle.std.proofs.Common.{List, ℕ, subst}
-use Rattle.arimaa_cli.specs.Commands.{IsAnswerOf}
 use Rattle.arimaa_cli.proofs.Ends.{answer_found}
 use Rattle.arimaa_cli.proofs.calls.find.Goals as goal
 
@@ -8,5 +6,4 @@ command_answer-requires-after_bounds g c κs within = c.in-Ok.ensures.asks.in_fo
 
 pub returns-in_ok-command_answer-in-Ok-clause-answer : goal.returns-in_ok-command_answer-in-Ok-clause-answer
 returns-in_ok-command_answer-in-Ok-clause-answer g c = λ bytes input fault memory.
-    answer_found c.args.call c.args.words.now bytes c.in-Ok.asking.command c.in-Ok.asking.bytes.items (c.in-Ok.ensures.asked bytes input) c.in_ok-command_answer-in-Ok.field-0
-    (subst (λ (b : List ℕ). IsAnswerOf b c.in-Ok.asking.command c.in_ok-command_answer-in-Ok.field-0) c.deref.ensures.value c.in_ok-command_answer-in-Ok.ensures)
+    answer_found c.args.call c.args.words.now bytes c.in-Ok.asking (c.in-Ok.ensures.asked bytes input) c.in_ok-command_answer-in-Ok.field-0 c.in_ok-command_answer-in-Ok.ensures
