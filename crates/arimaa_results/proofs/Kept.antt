@@ -74,25 +74,6 @@ pub none_left : (kept : List (List ℕ)) (pairs : List (Step × TurnState)) → 
 unfolding left_of_kept
 none_left kept pairs none = ap (left_of_kept kept) none
 
--- each step is accepted, and its state is the one that it makes
-abbrev pub AreMadeBy : TurnState → List (Step × TurnState) → Type 0
-AreMadeBy st [] = Unit {0}
-AreMadeBy st (pr ∷ pairs) = (IsOk (next_answer st pr.0) × (pr.1 ≡ next_state st pr.0)) × AreMadeBy st pairs
-
-made_by : (st : TurnState) (ts : List Step) → AreMadeBy st (flat_map (pairs_by st) ts)
-made_by st [] = tt
-made_by st (s ∷ ts) = subst (λ l. AreMadeBy st (l ++ flat_map (pairs_by st) ts)) (sym (pairs_by-is st s)) (by_answer (is_ok (next_answer st s)) refl (made_by st ts)) where
-  by_answer : (v : Bool) → is_ok (next_answer st s) ≡ v → AreMadeBy st (flat_map (pairs_by st) ts) → AreMadeBy st (cond v ((s, next_state st s) ∷ []) [] ++ flat_map (pairs_by st) ts)
-  by_answer true e rest = ((e, refl), rest)
-  by_answer false e rest = rest
-
-pub all_made_by : (st : TurnState) (pairs : List (Step × TurnState)) → pairs ≡ next_pairs st → AreMadeBy st pairs
-unfolding next_pairs
-all_made_by st pairs all = subst (AreMadeBy st) (sym all) (made_by st (candidates st.board))
-
-pub first_made_by : (st : TurnState) (pairs left : List (Step × TurnState)) (s : Step) (made : TurnState) → pairs ≡ (s, made) ∷ left → AreMadeBy st pairs → (IsOk (next_answer st s) × (made ≡ next_state st s)) × AreMadeBy st left
-first_made_by st pairs left s made split are = subst (AreMadeBy st) split are
-
 -- the kept states of the third layer, from its first place on
 pub kept_start : (p : Position) (third : ℕ) (segments : List (List (List ℕ))) → segments ≡ layers_to p 3 → third ≡ length (live_of (layers_to p 2)) → drop third (live_of segments) ≡ layer p 3
 kept_start p third segments stands begins =
