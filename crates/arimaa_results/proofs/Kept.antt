@@ -1,21 +1,18 @@
 -- Reading the kept states one after another, as the steps that make them come again.
-use Rattle.std.proofs.Common.{◌≡◌, ℕ, zero, suc, ◌+◌, ◌<◌, List, [], ◌∷◌, ◌++◌, length, drop, get_or, Bool, true, false, cond, Some, refl, sym, ◌∙◌, ap, subst, arith, true≢false}
-use Rattle.std.specs.Prelude.{◌-◌, ◌≤◌, IsOk, is_ok}
-use Rattle.std.specs.List.{flat_map, slice_get}
+use Rattle.std.proofs.Common.{◌≡◌, ℕ, zero, suc, ◌+◌, ◌<◌, List, [], ◌∷◌, ◌++◌, length, drop, get_or, true, false, cond, Some, refl, sym, ◌∙◌, ap, arith, true≢false}
+use Rattle.std.specs.Prelude.{◌-◌, ◌≤◌}
+use Rattle.std.specs.List.{slice_get}
 use Rattle.std.proofs.lemmas.List.{at_drop_more, at_drop_all, drop_at}
 use Rattle.std.proofs.lemmas.Option.{get_or_from_slice_get}
 use Rattle.arimaa_board.specs.declared.position.Position.{Position}
 use Rattle.arimaa_board.specs.declared.position.Step.{Step}
-use Rattle.arimaa_model.specs.Plain.{candidates}
 use Rattle.arimaa_step.specs.declared.state.TurnState.{TurnState}
-use Rattle.arimaa_step.specs.Next.{next_answer, next_state}
 use Rattle.arimaa_step.specs.StateWords.{state_in_planes}
 use Rattle.arimaa_region.specs.Segments.{live_of}
 use Rattle.arimaa_results.specs.Layering.{layer, layers_to}
 use Rattle.arimaa_results.proofs.Layers.{layers_to-suc}
 use Rattle.arimaa_results.specs.LastSteps.{is_next, left_after, brings_in_order, brings_first, left_of_kept, brings_last}
-use Rattle.arimaa_results.specs.NextStates.{pairs_by, next_pairs}
-use Rattle.arimaa_results.proofs.StatePairs.{pairs_by-is}
+use Rattle.arimaa_results.specs.NextStates.{next_pairs}
 
 -- what stands at a place is the next value from there on
 pub kept_there : (live : List (List ℕ)) (i : ℕ) (w : List ℕ) → i < length live → slice_get live i ≡ Some w → drop i live ≡ w ∷ drop (i + 1) live

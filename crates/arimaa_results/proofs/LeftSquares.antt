@@ -1,8 +1,7 @@
 -- The square that a step leaves: it is empty after the step, and in no plane of the kind of a kept state that may be the one
 -- after it.
-use Rattle.std.proofs.Common.{◌≡◌, ℕ, ◌<◌, ◌≤◌, ◌≢◌, bit_or, List, length, drop, true, false, Option, None, Some, refl, sym, ◌∙◌, ap, ⊎_elim, arith, get_or-set_same, get_or-set_other, true≢false}
+use Rattle.std.proofs.Common.{◌≡◌, ℕ, ◌<◌, ◌≤◌, ◌≢◌, bit_or, List, length, drop, true, false, None, Some, refl, sym, ◌∙◌, ap, ⊎_elim, arith, get_or-set_same, get_or-set_other, true≢false}
 use Rattle.std.specs.Prelude.{is_ok, slice_index}
-use Rattle.std.specs.Int.{bit_at}
 use Rattle.std.specs.List.{slice_get}
 use Rattle.std.proofs.lemmas.Bool.{and_parts, cases_lt, false_from_ne_true}
 use Rattle.std.proofs.lemmas.List.{get_or_past}
