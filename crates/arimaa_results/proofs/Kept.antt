@@ -1,21 +1,18 @@
 -- Reading the kept states one after another, as the steps that make them come again.
-use Rattle.std.proofs.Common.{◌≡◌, ℕ, zero, suc, ◌+◌, ◌<◌, List, [], ◌∷◌, ◌++◌, length, drop, get_or, Bool, true, false, cond, Some, refl, sym, ◌∙◌, ap, subst, arith, true≢false}
-use Rattle.std.specs.Prelude.{◌-◌, ◌≤◌, IsOk, is_ok}
-use Rattle.std.specs.List.{flat_map, slice_get}
+use Rattle.std.proofs.Common.{◌≡◌, ℕ, zero, suc, ◌+◌, ◌<◌, List, [], ◌∷◌, ◌++◌, length, drop, get_or, true, false, cond, Some, refl, sym, ◌∙◌, ap, arith, true≢false}
+use Rattle.std.specs.Prelude.{◌-◌, ◌≤◌}
+use Rattle.std.specs.List.{slice_get}
 use Rattle.std.proofs.lemmas.List.{at_drop_more, at_drop_all, drop_at}
 use Rattle.std.proofs.lemmas.Option.{get_or_from_slice_get}
 use Rattle.arimaa_board.specs.declared.position.Position.{Position}
 use Rattle.arimaa_board.specs.declared.position.Step.{Step}
-use Rattle.arimaa_model.specs.Plain.{candidates}
 use Rattle.arimaa_step.specs.declared.state.TurnState.{TurnState}
-use Rattle.arimaa_step.specs.Next.{next_answer, next_state}
 use Rattle.arimaa_step.specs.StateWords.{state_in_planes}
 use Rattle.arimaa_region.specs.Segments.{live_of}
 use Rattle.arimaa_results.specs.Layering.{layer, layers_to}
 use Rattle.arimaa_results.proofs.Layers.{layers_to-suc}
 use Rattle.arimaa_results.specs.LastSteps.{is_next, left_after, brings_in_order, brings_first, left_of_kept, brings_last}
-use Rattle.arimaa_results.specs.NextStates.{pairs_by, next_pairs}
-use Rattle.arimaa_results.proofs.StatePairs.{pairs_by-is}
+use Rattle.arimaa_results.specs.NextStates.{next_pairs}
 
 -- what stands at a place is the next value from there on
 pub kept_there : (live : List (List ℕ)) (i : ℕ) (w : List ℕ) → i < length live → slice_get live i ≡ Some w → drop i live ≡ w ∷ drop (i + 1) live
@@ -73,25 +70,6 @@ none_brings barred st kept pairs none = ap (brings_first barred st kept) none
 pub none_left : (kept : List (List ℕ)) (pairs : List (Step × TurnState)) → pairs ≡ [] → left_of_kept kept pairs ≡ kept
 unfolding left_of_kept
 none_left kept pairs none = ap (left_of_kept kept) none
-
--- each step is accepted, and its state is the one that it makes
-abbrev pub AreMadeBy : TurnState → List (Step × TurnState) → Type 0
-AreMadeBy st [] = Unit {0}
-AreMadeBy st (pr ∷ pairs) = (IsOk (next_answer st pr.0) × (pr.1 ≡ next_state st pr.0)) × AreMadeBy st pairs
-
-made_by : (st : TurnState) (ts : List Step) → AreMadeBy st (flat_map (pairs_by st) ts)
-made_by st [] = tt
-made_by st (s ∷ ts) = subst (λ l. AreMadeBy st (l ++ flat_map (pairs_by st) ts)) (sym (pairs_by-is st s)) (by_answer (is_ok (next_answer st s)) refl (made_by st ts)) where
-  by_answer : (v : Bool) → is_ok (next_answer st s) ≡ v → AreMadeBy st (flat_map (pairs_by st) ts) → AreMadeBy st (cond v ((s, next_state st s) ∷ []) [] ++ flat_map (pairs_by st) ts)
-  by_answer true e rest = ((e, refl), rest)
-  by_answer false e rest = rest
-
-pub all_made_by : (st : TurnState) (pairs : List (Step × TurnState)) → pairs ≡ next_pairs st → AreMadeBy st pairs
-unfolding next_pairs
-all_made_by st pairs all = subst (AreMadeBy st) (sym all) (made_by st (candidates st.board))
-
-pub first_made_by : (st : TurnState) (pairs left : List (Step × TurnState)) (s : Step) (made : TurnState) → pairs ≡ (s, made) ∷ left → AreMadeBy st pairs → (IsOk (next_answer st s) × (made ≡ next_state st s)) × AreMadeBy st left
-first_made_by st pairs left s made split are = subst (AreMadeBy st) split are
 
 -- the kept states of the third layer, from its first place on
 pub kept_start : (p : Position) (third : ℕ) (segments : List (List (List ℕ))) → segments ≡ layers_to p 3 → third ≡ length (live_of (layers_to p 2)) → drop third (live_of segments) ≡ layer p 3

@@ -76,7 +76,7 @@ pub(crate) fn take_first(steps: &mut AcceptedSteps) -> Option<(Square, Dir)>
 
 // Takes the first of some steps that a state accepts, with its piece.
 #[inline(always)]
-fn take_step(state: &TurnState, steps: &mut AcceptedSteps) -> Option<Step>
+pub(crate) fn take_step(state: &TurnState, steps: &mut AcceptedSteps) -> Option<Step>
     requires { AreAllAccepted state.now steps.old }
     ensures { IsStepTaken state.now steps.old result steps.new }
 {

@@ -66,6 +66,7 @@ struct Movers {
 }
 
 // The square that a piece left, if one did.
+#[inline(always)]
 fn left_mask(left: Option<(Square, Piece)>) -> u64
     ensures { IsMaskOf (is_left left) result }
 {
@@ -76,6 +77,7 @@ fn left_mask(left: Option<(Square, Piece)>) -> u64
 }
 
 // The rabbits, where a step in a direction goes backward.
+#[inline(always)]
 fn kept_back(rabbits: u64, side: Color, dir: Dir) -> u64
     ensures { (test : ℕ → Bool) → IsMaskOf test rabbits
         → IsMaskOf (λ n. is_back side dir && test n) result }
@@ -85,6 +87,7 @@ fn kept_back(rabbits: u64, side: Color, dir: Dir) -> u64
 
 impl Movers {
     // The squares from which a step in a direction is accepted, in a state with fewer than four steps.
+    #[inline(always)]
     fn towards(&self, side: Color, dir: Dir) -> u64
         ensures { (st : TurnState) → st.start.side ≡ side → st.count < 4
             → AreMovers st self.now → IsMaskOf (accepts st dir) result }
@@ -100,6 +103,7 @@ impl Movers {
 impl Movers {
     // The squares from which a step in a direction ends a move, in a state with fewer than four steps: all that are
     // accepted but those that only begin a push.
+    #[inline(always)]
     fn ending_towards(&self, side: Color, dir: Dir) -> u64
         ensures { (st : TurnState) → st.start.side ≡ side → st.count < 4
             → AreMovers st self.now → IsMaskOf (ends_by st dir) result }
@@ -115,6 +119,7 @@ impl Movers {
 impl TurnState {
     // The pieces that could make the open push. On the start board this is looked up, since a trap of it may hold a
     // piece without a friend; later the first half of a push never freezes or frees the pusher.
+    #[inline(always)]
     fn pushers(&self, left: Option<(Square, Piece)>) -> u64
         ensures { IsMaskOf (may_push self.now left) result }
     {
@@ -131,6 +136,7 @@ impl TurnState {
     }
 
     // The pieces that could be pulled.
+    #[inline(always)]
     fn pulled(&self, left: Option<(Square, Piece)>) -> u64
         ensures { IsMaskOf (may_be_pulled self.now.board left) result }
     {
@@ -141,6 +147,7 @@ impl TurnState {
     }
 
     // The pieces that may make a single step, and the enemies that may be pushed.
+    #[inline(always)]
     fn beginners(&self) -> (u64, u64)
         ensures going { IsMaskOf (may_go self.now) result.0 }
         ensures pushed { IsMaskOf (may_be_pushed self.now) result.1 }
@@ -153,6 +160,9 @@ impl TurnState {
         }
     }
 
+    // What may move now. It is joined to its callers' code, so that one that doesn't ask for the
+    // enemies that may be pushed doesn't pay for them.
+    #[inline(always)]
     fn movers(&self) -> Movers
         ensures { AreMovers self.now result }
     {
