@@ -5,30 +5,11 @@ use arimaa_child::{ChildSpawner, SystemClock};
 use arimaa_cli::run;
 use arimaa_outside::{CommandWords, Status, StdSink, StdSource};
 use std::alloc::{AllocError, Global};
+use std::io;
 use std::process::{ExitCode, Processes};
 use std::rt::Env;
 use std::thread::Threads;
 use std::time::Clock;
-use std::{env, io};
-
-// The words after the program's own name. Where one of them is not UTF-8 there are none, since such
-// words are in no command's form.
-fn command_words(rt: &(impl Env + AllocGlobal)) -> Result<CommandWords, AllocError> {
-    let mut words = CommandWords::new(rt.alloc());
-    match env::args(rt) {
-        Ok(args) => {
-            for word in args.skip(1) {
-                words.push(word.as_str())?;
-            }
-        }
-        Err(error) => {
-            if error.kind() == io::ErrorKind::OutOfMemory {
-                return Err(AllocError);
-            }
-        }
-    }
-    Ok(words)
-}
 
 // Runs the command that the words ask for, on standard input and standard output, with engines as
 // child processes and the time of the system.
@@ -36,7 +17,7 @@ fn answer<R: Threads + Sync + Env + AllocGlobal + Input + Print + Processes + Cl
     rt: &R,
     alloc: Global,
 ) -> Result<Status, AllocError> {
-    let words = command_words(rt)?;
+    let words = CommandWords::of_program(rt)?;
     let mut input = StdSource::new(rt.reader());
     let mut output = StdSink::new(io::writer(rt));
     let mut spawner = ChildSpawner::new(rt, alloc);

@@ -2,7 +2,7 @@
 use Rattle.std.proofs.Common.{◌≡◌, ◌≢◌, ℕ, List, Option, inl, inr, refl, sym, ◌∙◌, subst, ⊎_elim}
 use Rattle.std.specs.Prelude.{◌⊎◌, IsTrue}
 use Rattle.std.specs.Io.KnownBytes.{append_known}
-use Rattle.arimaa_archive.specs.Writing.{EndsWith}
+use Rattle.arimaa_outside.specs.Writing.{EndsWith}
 use Rattle.arimaa_outside.specs.declared.status.Status.{Status}
 use Rattle.arimaa_outside.specs.declared.status.Status.TheVariants.{Done, Answered, Words, WriteFault, TooLong}
 use Rattle.arimaa_archive.specs.Agreement.{AnswersAgree}

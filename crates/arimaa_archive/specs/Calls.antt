@@ -2,7 +2,7 @@
 use Rattle.std.specs.Prelude.{◌≡◌, ◌≢◌, ◌<◌, ◌≤◌, ◌⊎◌, ℕ, Bool, true, false, List, [], Option, None, Some, IfSome, IsTrue, codes, length, option_map}
 use Rattle.std.specs.List.{AllZip}
 use Rattle.std.specs.Io.KnownBytes.{append_known}
-use Rattle.arimaa_archive.specs.Writing.{EndsWith}
+use Rattle.arimaa_outside.specs.Writing.{EndsWith}
 use Rattle.arimaa_judge.specs.Texts.{line}
 use Rattle.arimaa_outside.specs.Faults.{HasRisen}
 use Rattle.arimaa_outside.specs.declared.source.TheConstants.{INPUT_LIMIT}

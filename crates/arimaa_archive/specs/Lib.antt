@@ -3,7 +3,6 @@ pub mod Told
 pub mod Shares
 pub mod Report
 pub mod Words
-pub mod Writing
 pub mod Calls
 pub mod Agreement
 pub mod Cover

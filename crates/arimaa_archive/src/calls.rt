@@ -1,8 +1,7 @@
 //! The run: reads an archive, judges its records, and writes the report.
-ghost use Rattle.std.specs.Prelude.{◌≡◌, ◌≢◌, ◌≤◌, ◌⊎◌, ℕ, List, IfOk, length};
-ghost use Rattle.arimaa_outside.specs.Faults.{HasRisen};
+ghost use Rattle.std.specs.Prelude.{◌≡◌, ◌≤◌, ◌⊎◌, ℕ, List, IfOk, length};
 ghost use Rattle.arimaa_outside.specs.declared.status.Status.TheVariants as outcome;
-ghost use Rattle.arimaa_archive.specs.Writing.{EndsWith, Outputs};
+ghost use Rattle.arimaa_outside.specs.Writing.{Outputs};
 ghost use Rattle.arimaa_archive.specs.Calls.{Answers, Inputs, IsAnswer};
 ghost use Rattle.arimaa_archive.specs.Words.{AreInForm};
 ghost use Rattle.arimaa_archive.specs.declared.words.TheConstants.{MOST_WORKERS as MOST};
@@ -13,7 +12,7 @@ use crate::report::{report, stray_text};
 use crate::shares::judge_many;
 use crate::words::read_workers;
 use arimaa_outside::{
-    CommandWords, INPUT_LIMIT, ReadAll, Sink, Source, Status, read_all, write_all,
+    CommandWords, INPUT_LIMIT, ReadAll, Sink, Source, Status, read_all, write_answer,
 };
 use arimaa_pool::NoGate;
 use std::alloc::{AllocError, Global};
@@ -57,18 +56,6 @@ fn answer<R: Threads + Sync>(
     })
 }
 
-// Writes a text, and ends with a status, or with that of a write that failed.
-fn write<O: Sink>(output: &mut O, status: Status, text: &[u8]) -> Status
-    ensures ends { EndsWith result (O.contents output.old) (O.contents output.new) status text.now }
-    ensures fault { result ≢ status → HasRisen (O.faults output.old) (O.faults output.new) }
-    ensures unfailed { result ≢ outcome.WriteFault → O.faults output.new ≡ O.faults output.old }
-{
-    match write_all(output, text) {
-        Ok(()) => status,
-        Err(_) => Status::WriteFault,
-    }
-}
-
 /// Judges the archive that the input is, and writes the report; ends with the status.
 ///
 /// The words are none, or `--workers` and a number from 1 to 16, of threads; without words there
@@ -94,15 +81,15 @@ pub fn run_archive<R: Threads + Sync, I: Source, O: Sink>(
 {
     archive_answers_agree();
     let Some(workers) = read_workers(words) else {
-        return write(output, Status::Words, b"bad words\n");
+        return write_answer(output, Status::Words, b"bad words\n");
     };
     match read_all(alloc, input) {
         Err(ReadAll::Fault) => Status::ReadFault,
-        Err(ReadAll::TooLong) => write(output, Status::TooLong, b"too long\n"),
+        Err(ReadAll::TooLong) => write_answer(output, Status::TooLong, b"too long\n"),
         Err(ReadAll::Memory) => Status::Memory,
         Ok(bytes) => match answer(rt, alloc, &bytes, workers) {
             Err(_) => Status::Memory,
-            Ok(reply) => write(output, reply.status, &reply.text),
+            Ok(reply) => write_answer(output, reply.status, &reply.text),
         },
     }
 }

@@ -11,3 +11,4 @@ pub mod OpenAnswers
 pub mod Status
 pub mod StdPort
 pub mod Told
+pub mod Writing

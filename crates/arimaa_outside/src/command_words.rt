@@ -3,6 +3,8 @@ ghost use Rattle.std.specs.Prelude.{◌≡◌, ◌≤◌, ◌++◌, ◌∷◌, [
 
 use std::alloc::{AllocError, Global};
 use std::marker::Model;
+use std::rt::Env;
+use std::{env, io};
 
 /// The words of a command line in order, without the program's own name.
 #[derive(Drop)]
@@ -28,6 +30,30 @@ impl CommandWords {
             alloc,
             words: Vec::new(alloc),
         }
+    }
+
+    /// The words after the program's own name. Where one of them is not UTF-8 there is one word
+    /// alone, an empty one, which is in no program's form.
+    ///
+    /// # Errors
+    ///
+    /// Where no memory is left.
+    pub fn of_program(rt: &(impl Env + AllocGlobal)) -> Result<Self, AllocError> {
+        let mut words = CommandWords::new(rt.alloc());
+        match env::args(rt) {
+            Ok(args) => {
+                for word in args.skip(1) {
+                    words.push(word.as_str())?;
+                }
+            }
+            Err(error) => {
+                if error.kind() == io::ErrorKind::OutOfMemory {
+                    return Err(AllocError);
+                }
+                words.push("")?;
+            }
+        }
+        Ok(words)
     }
 
     /// Adds a word at the end.

@@ -46,7 +46,7 @@ pub use port::{LINE_LIMIT, Port};
 pub use port_answer::PortAnswer;
 pub use port_fault::PortFault;
 pub use said::Said;
-pub use sink::{Sink, write_all};
+pub use sink::{Sink, write_all, write_answer};
 pub use source::{INPUT_LIMIT, ReadAll, Source, read_all};
 pub use spawner::Spawner;
 pub use status::Status;

@@ -1,9 +1,12 @@
 //! Bytes that go out, and all of them written.
-ghost use Rattle.std.specs.Prelude.{◌≡◌, ◌<◌, ◌≤◌, ℕ, List, Option, IfOk, OnErr, OnOk, length, take};
+ghost use Rattle.std.specs.Prelude.{◌≡◌, ◌≢◌, ◌<◌, ◌≤◌, ℕ, List, Option, IfOk, OnErr, OnOk, length, take};
 ghost use Rattle.std.specs.Io.KnownBytes.{append_known};
 ghost use Rattle.arimaa_outside.specs.Faults.{HasRisen};
+ghost use Rattle.arimaa_outside.specs.Writing.{EndsWith};
+ghost use Rattle.arimaa_outside.specs.declared.status.Status.TheVariants.{WriteFault};
 
 use crate::failed::Failed;
+use crate::status::Status;
 
 /// What takes bytes.
 pub trait Sink {
@@ -50,4 +53,17 @@ pub fn write_all<S: Sink>(sink: &mut S, bytes: &[u8]) -> Result<(), Failed>
         written += sink.write(&bytes[written..])?;
     }
     Ok(())
+}
+
+/// Writes the text of an answer, and gives the status that its call ends with: that of the answer,
+/// or `WriteFault` where a write failed. The bytes before that write are written then.
+pub fn write_answer<S: Sink>(sink: &mut S, status: Status, text: &[u8]) -> Status
+    ensures ends { EndsWith result (S.contents sink.old) (S.contents sink.new) status text.now }
+    ensures fault { result ≢ status → HasRisen (S.faults sink.old) (S.faults sink.new) }
+    ensures unfailed { result ≢ WriteFault → S.faults sink.new ≡ S.faults sink.old }
+{
+    match write_all(sink, text) {
+        Ok(()) => status,
+        Err(_) => Status::WriteFault,
+    }
 }
