@@ -1,12 +1,12 @@
 -- How a game ends by the rules and by a word, and what a game keeps at hand.
-use Rattle.std.proofs.Common.{◌≡◌, ◌<◌, ◌≤◌, ℕ, get_or, take, ⊎_elim, length-append, List, [], ◌∷◌, ◌++◌, length, Option, None, Some, false, refl, sym, ap, subst, ◌∙◌, arith, true≢false}
-use Rattle.std.specs.Prelude.{IsSome, is_some, All, Bool, true, cond, ◌||◌}
+use Rattle.std.proofs.Common.{◌≡◌, ◌<◌, ◌≤◌, ◌+◌, ℕ, zero, suc, get_or, take, ⊎_elim, length-append, List, [], ◌∷◌, ◌++◌, length, Option, None, Some, false, refl, sym, ap, subst, ◌∙◌, arith, true≢false}
+use Rattle.std.specs.Prelude.{IsNone, IsSome, is_some, ◌↔◌, option_to_list, All, Bool, true, cond, ◌||◌}
 use Rattle.std.specs.List.{filter, list_any}
 use Rattle.std.specs.Option.{option_or}
 use Rattle.std.proofs.Math.Seq.{get_or-append_seam, take-append_seam}
 use Rattle.std.proofs.lemmas.Bool.{cases_lt}
 use Rattle.std.proofs.lemmas.List.{get_or_append_left, take-append-le}
-use Rattle.std.proofs.lemmas.List.Elements.{All-push}
+use Rattle.std.proofs.lemmas.List.Elements.{All-pop, All-push}
 use Rattle.arimaa_board.specs.Fit.{IsFit}
 use Rattle.arimaa_board.specs.declared.position.Position.{Position}
 use Rattle.arimaa_board.specs.declared.ending.Ending.{Ending}
@@ -121,14 +121,82 @@ kept-begun [] new p o e more fit is =
     kept-grown [] new None p o more refl (λ k d small. absurd (omega arith)) fit (λ k d low small. absurd (omega arith)) (λ some. absurd (omega arith)) is
 kept-begun (q ∷ h) new p o e more fit is = absurd (cc)
 
+-- nothing where there isn't something
+pub not_ended : (o : Option Ending) → is_some o ≡ false → o ≡ None
+not_ended None none = refl
+not_ended (Some e) none = absurd (true≢false none)
+
 -- what a game keeps after a word has closed it
 pub kept-closed : (g : Play) (p : Position) (o : Option Ending) (word : Word) (e : Ending) → present g.history ≡ Some p → IsKept g o → is_some o ≡ false → e ≡ closed_by word p.side → IsKept (record { history = g.history; closing = Some word }) (Some e)
 kept-closed g p o word e now kept running is =
-    let none : ending g.history ≡ None = running-rules g (sym kept.ending ∙ is_none o running) in
+    let none : ending g.history ≡ None = running-rules g (sym kept.ending ∙ not_ended o running) in
     record {
       game = record { some = kept.game.some; fit = kept.game.fit; lawful = kept.game.lawful; closing = λ some. none };
       ending = ap Some is ∙ sym (closed-ending g.history p word now none);
-    } where
-      is_none : (x : Option Ending) → is_some x ≡ false → x ≡ None
-      is_none None f = refl
-      is_none (Some a) f = absurd (true≢false f)
+    }
+
+-- where there are positions, one of them is present
+some-present : (h : List Position) → 0 < length h → IsSome (present h)
+some-present [] some = absurd (omega arith)
+some-present (p ∷ []) some = refl
+some-present (p ∷ q ∷ h) some = some-present (q ∷ h) (omega arith)
+
+-- and where one is present, there are positions
+pub present-some : (h : List Position) → IsSome (present h) → 0 < length h
+present-some [] some = absurd (true≢false (sym some))
+present-some (p ∷ h) some = omega arith
+
+-- the positions before the last are lawful too
+lawful-less : (h : List Position) (q : Position) → AreLawful (h ++ q ∷ []) → AreLawful h
+lawful-less h q each k d low small =
+    let Follows : List Position → Position → Type 0 = λ g r. (ending g ≡ None) × IsLawful g r in
+    let whole = length-append h (q ∷ []) in
+    let front : take k (h ++ q ∷ []) ≡ take k h = take-append-le k h (q ∷ []) (omega arith) in
+    let same : get_or (h ++ q ∷ []) k d ≡ get_or h k d = get_or_append_left h (q ∷ []) d k small in
+    subst (λ (g : List Position). Follows g (get_or h k d)) front (subst (Follows (take k (h ++ q ∷ []))) same (each k d low (omega (arith, whole))))
+
+-- before the last position the game went on
+before-last : (h : List Position) (q : Position) → 0 < length h → AreLawful (h ++ q ∷ []) → ending h ≡ None
+before-last h q some each =
+    let whole = length-append h (q ∷ []) in
+    subst (λ (g : List Position). ending g ≡ None) (take-append_seam h (q ∷ [])) (each (length h) q some (omega (arith, whole))).0
+
+-- what a game keeps that goes on, once its last position was taken from it
+kept-shrunk : (h : List Position) (q : Position) (w : Option Word) (o : Option Ending) → 0 < length h → o ≡ None
+    → IsKept (record { history = h ++ q ∷ []; closing = w }) o → IsKept (record { history = h; closing = w }) o
+kept-shrunk h q w o some going kept =
+    let Fits : Position → Type 0 = λ x. IsFit x.board in
+    let running : ending_of (record { history = h ++ q ∷ []; closing = w }) ≡ None = sym kept.ending ∙ going in
+    let unclosed : w ≡ None = running-unclosed (record { history = h ++ q ∷ []; closing = w }) kept.game.some running in
+    let before : ending h ≡ None = before-last h q some kept.game.lawful in
+    record {
+      game = record { some = some-present h some; fit = (All-pop Fits (h ++ q ∷ []) h (Some q) refl kept.game.fit).0; lawful = lawful-less h q kept.game.lawful; closing = λ closed. absurd (no_word w unclosed closed) };
+      ending = going ∙ (sym before ∙ unclosed-ending h w unclosed);
+    }
+
+-- where a position was taken from a game in which a turn stands, it was the last one
+last-taken : (h new : List Position) (r : Option Position) → h ≡ new ++ option_to_list r → (IsNone r → h ≡ []) → 1 < length h
+    → (q : Position) × (h ≡ new ++ q ∷ []) × (0 < length new)
+last-taken h new None is none more = absurd (let size = ap length (none refl) in omega (arith, size))
+last-taken h new (Some q) is none more = (q, is, let size = ap length is in omega (arith, size, length-append new (q ∷ [])))
+
+-- a game of two positions or more, by how many turns stand in it
+more-than-one : (turns : ℕ) (h : List Position) → turns + 1 ≡ length h → (turns ≡ 0 → ⊥) → 1 < length h
+more-than-one zero h counted some = absurd (some refl)
+more-than-one (suc turns) h counted some = omega (arith, counted)
+
+-- what holds where the last position was taken from a game that goes on and in which a turn stands
+pub record LastTaken (g : Play) (new : List Position) (o : Option Ending) : Type 0 where
+  pub last : Position
+  pub before : g.history ≡ new ++ last ∷ []
+  pub kept : IsKept (record { history = new; closing = g.closing }) o
+  pub running : ending_of (record { history = new; closing = g.closing }) ≡ None
+
+pub taken-back : (g : Play) (new : List Position) (r : Option Position) (turns : ℕ) (o : Option Ending) → IsKept g o → is_some o ≡ false
+    → turns + 1 ≡ length g.history → (turns ≡ 0 → ⊥) → g.history ≡ new ++ option_to_list r → (IsNone r → g.history ≡ []) → LastTaken g new o
+taken-back g new r turns o kept none counted some is empty =
+    let taken = last-taken g.history new r is empty (more-than-one turns g.history counted some) in
+    let going : o ≡ None = not_ended o none in
+    let whole = subst (λ (h : List Position). IsKept (record { history = h; closing = g.closing }) o) taken.1 kept in
+    let shrunk = kept-shrunk new taken.0 g.closing o taken.2 going whole in
+    record { last = taken.0; before = taken.1; kept = shrunk; running = sym shrunk.ending ∙ going }

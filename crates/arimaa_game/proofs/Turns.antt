@@ -25,6 +25,7 @@ use Rattle.arimaa_history.proofs.Present.{present-holds}
 use Rattle.arimaa_game.specs.declared.fault.GameFault.{GameFault}
 use Rattle.arimaa_game.specs.declared.fault.GameFault.TheVariants as faults
 use Rattle.arimaa_game.specs.Faults.{IsFaultOf, fault_of, rule_broken, rule_of_answer}
+use Rattle.arimaa_game.proofs.Endings.{not_ended}
 use Rattle.arimaa_game.specs.Play.{BringsAbout, IsGame, Play, Reaches, ending_of, played, unless_marked, unless_third}
 
 -- no turn is played in a game that has ended
@@ -42,10 +43,6 @@ lawful-present h p now = rw now refl
 
 parts-position : (p q : Position) → q.side ≡ other_color p.side → position_of q.board p ≡ q
 parts-position p q side = λ i. record { board = q.board; side = sym side i }
-
-not_ended : (o : Option Ending) → is_some o ≡ false → o ≡ None
-not_ended None e = refl
-not_ended (Some a) e = absurd (true≢false e)
 
 -- a turn that can be applied in a game that goes on reaches a position on a fit board, which is lawful unless it stands twice
 module _ (g : Play) (p : Position) (steps : List Step) (game : IsGame g) (now : present g.history ≡ Some p) (few : length steps ≤ 4) (running : is_some (ending_of g) ≡ false) where

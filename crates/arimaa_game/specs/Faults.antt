@@ -1,4 +1,4 @@
--- The faults of turns in a game.
+-- The faults of turns and takebacks in a game.
 use Rattle.std.specs.Prelude.{◌≡◌, Option, None, Some, Result, Ok, Err}
 use Rattle.arimaa_model.specs.declared.fault.ApplyFault.{ApplyFault}
 use Rattle.arimaa_model.specs.declared.fault.ApplyFault.TheVariants as applying
@@ -17,9 +17,10 @@ abbrev pub IsFaultOf : {V : Type 0} → Result V GameFault → GameFault → Typ
 IsFaultOf (Err e) fault = fault ≡ e
 IsFaultOf (Ok v) fault = fault ≡ faults.Memory
 
--- the rule that a turn breaks by a fault: none where the game has ended or memory is wanting
+-- the rule that a turn breaks by a fault: none where the game has ended or memory is wanting; a fault of takebacks alone breaks none either
 abbrev pub rule_broken : GameFault → Option FirstFault
 rule_broken faults.Over = None
+rule_broken faults.NoTurn = None
 rule_broken (faults.Step place e) = Some (first.Step place e)
 rule_broken faults.Mark = Some first.Mark
 rule_broken (faults.Turn e) = Some (first.Turn e)

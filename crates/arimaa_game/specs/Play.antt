@@ -1,5 +1,5 @@
--- A game as contracts see it, and what turns and words do to it.
-use Rattle.std.specs.Prelude.{◌≡◌, ℕ, ◌<◌, ◌≤◌, Bool, true, false, List, [], ◌∷◌, ◌++◌, Option, None, Some, Result, Ok, Err, All, IsSome, is_some, nat_le, length, take, if◌then◌else◌}
+-- A game as contracts see it, and what turns, words and takebacks do to it.
+use Rattle.std.specs.Prelude.{◌≡◌, ◌==◌, ℕ, ◌-◌, ◌<◌, ◌≤◌, Bool, true, false, List, [], ◌∷◌, ◌++◌, Option, None, Some, Result, Ok, Err, All, IsSome, is_some, nat_le, length, take, if◌then◌else◌}
 use Rattle.std.specs.List.{slice_index_or}
 use Rattle.std.specs.Option.{option_or}
 use Rattle.arimaa_board.specs.Fit.{IsFit}
@@ -112,3 +112,22 @@ pub record BringsAbout (g : Play) (p : Position) (steps : List Step) (q : Positi
 -- a game has gone on by a turn: what the turn brings about stands at the end
 abbrev pub GoesOn : Play → List Step → Play → Type 0
 GoesOn old steps new = (p : Position) × (q : Position) × BringsAbout old p steps q × (new ≡ grown old q)
+
+-- the number of turns that stand in a game: each position but the first was brought about by one
+abbrev pub turns_in : List Position → ℕ
+turns_in h = length h - 1
+
+-- why no turn of a game can be taken back: it has ended, or else no turn stands
+abbrev pub take_back_fault : Play → Option GameFault
+take_back_fault g =
+    if is_some (ending_of g) then Some faults.Over
+    else if turns_in g.history == 0 then Some faults.NoTurn
+    else None
+
+-- the last turn of a game is taken back: the game is the one before that turn, with p present, and
+-- goes on
+pub record TakesBack (old : Play) (p : Position) (new : Play) : Type 0 where
+  pub last : Position
+  pub before : old ≡ grown new last
+  pub present : present new.history ≡ Some p
+  pub running : ending_of new ≡ None

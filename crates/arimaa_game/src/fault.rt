@@ -1,16 +1,19 @@
-//! What keeps a turn or a word from changing a game.
+//! What keeps a turn, a word or a takeback from changing a game.
 ghost use Rattle.std.specs.Prelude.{◌≡◌};
 ghost use Rattle.arimaa_game.specs.Faults.{fault_of};
 
 use arimaa_model::{ApplyFault, StepFault, TurnFault};
 use thiserror::Error;
 
-/// Why a turn or a closing word is refused: the first of these that applies.
+/// Why a turn, a closing word or a takeback is refused: the first of these that applies.
 #[derive(Clone, Copy, Debug, PartialEq, Eq, Drop, Error)]
 pub enum GameFault {
     /// The game has ended.
     #[error("the game has ended")]
     Over,
+    /// No turn stands that could be taken back. Only a takeback has this fault.
+    #[error("no turn stands")]
+    NoTurn,
     /// The step at this place, from 1, is refused.
     #[error("step {place} of the turn is refused: {fault:?}")]
     Step { place: u8, fault: StepFault },

@@ -1,5 +1,5 @@
 //! A game: its positions, and how it has ended.
-ghost use Rattle.std.specs.Prelude.{◌≡◌, ◌↔◌, ◌≤◌, ℕ, List, Ok, Err, Some, None, false, IfOk, IfErr, IsErr, IsSome, IsTrue, OnOk, OnErr, Option};
+ghost use Rattle.std.specs.Prelude.{◌≡◌, ◌↔◌, ◌≤◌, ℕ, ◌+◌, List, length, Ok, Err, Some, None, false, IfOk, IfErr, IsErr, IsSome, IsTrue, OnOk, OnErr, Option};
 ghost use Rattle.arimaa_board.specs.declared.piece.Color.TheVariants as colors;
 ghost use Rattle.arimaa_board.specs.declared.piece.Piece.{Piece};
 ghost use Rattle.arimaa_board.specs.declared.position.Position.{Position};
@@ -10,7 +10,7 @@ ghost use Rattle.arimaa_model.specs.Marks.{marks_right};
 ghost use Rattle.arimaa_model.specs.FirstFaults.{first_fault_in};
 ghost use Rattle.arimaa_game.specs.Setups.{HoldsSetups, board_after_setups, position_after_setups};
 ghost use Rattle.arimaa_game.specs.Faults.{IsFaultOf, rule_of_answer};
-ghost use Rattle.arimaa_game.specs.Play.{GoesOn, IsGame, Reaches, begun, closed, ending_of, grown, played, played_noted, unless_marked, unless_third};
+ghost use Rattle.arimaa_game.specs.Play.{GoesOn, IsGame, Reaches, TakesBack, begun, closed, ending_of, grown, played, played_noted, take_back_fault, turns_in, unless_marked, unless_third};
 
 use crate::ending::ending_at;
 use crate::fault::{GameFault, fault_of};
@@ -189,6 +189,39 @@ impl Game {
         self.closing = Some(word);
         self.ending = Some(ending);
         Ok(ending)
+    }
+
+    /// Takes back the last turn, and answers the position that is now present, from which the game goes on.
+    /// It takes no memory. What the turn brought about is counted no more.
+    ///
+    /// A fault is the first that applies of
+    ///
+    /// - `Over`: the game has ended;
+    /// - `NoTurn`: no turn stands. Setups and the position of a start are never taken back.
+    ///
+    /// The game then is as before.
+    pub fn take_back(&mut self) -> Result<Position, GameFault>
+        ensures taken { IfOk result (λ p. TakesBack self.old p self.new) }
+        ensures due { OnOk result (take_back_fault self.old ≡ None) }
+        ensures fault { IfErr result (λ e. take_back_fault self.old ≡ Some e) }
+        ensures refused { OnErr result (self.new ≡ self.old) }
+    {
+        if self.ending.is_some() {
+            return Err(GameFault::Over);
+        }
+        if self.turns() == 0 {
+            return Err(GameFault::NoTurn);
+        }
+        self.history.pop();
+        Ok(self.now())
+    }
+
+    /// The number of turns that stand: those that were played and not taken back.
+    pub fn turns(&self) -> u64
+        ensures value { result ≡ turns_in self.now.history }
+        ensures counted { result + 1 ≡ length self.now.history }
+    {
+        self.history.as_slice().len().saturating_sub(1) as u64
     }
 
     /// How the game has ended: by the rules, or by the word that closed it. None where it goes on.

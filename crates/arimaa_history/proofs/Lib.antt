@@ -1,3 +1,4 @@
 pub mod KeyTests
 pub mod Counting
 pub mod Present
+pub mod LastPositions

@@ -1,5 +1,5 @@
 -- What is kept beside the positions of a history.
-use Rattle.std.specs.Prelude.{◌≡◌, Bool, ℕ, List, unwrap_or, if◌then◌else◌}
+use Rattle.std.specs.Prelude.{◌≡◌, Bool, ℕ, ◌-◌, List, length, take, unwrap_or, if◌then◌else◌}
 use Rattle.std.specs.declared.cmp.Ordering.{Ordering}
 use Rattle.std.specs.Ordering.{is_eq}
 use Rattle.std.specs.BTreeMap.{BTreeMap, get}
@@ -11,6 +11,10 @@ use Rattle.arimaa_history.specs.declared.key.Key.{Key}
 use Rattle.arimaa_history.specs.contracts.key.KeyOrd.TheImpl as key_order
 use Rattle.arimaa_history.specs.contracts.key.KeyPartialEq.TheImpl as key_equality
 use Rattle.arimaa_history.specs.Keys.{key_of, position_at}
+
+-- a list of positions without its last one
+abbrev pub without_last : List Position → List Position
+without_last h = take (length h - 1) h
 
 -- the order of keys
 abbrev pub order_of : Key → Key → Ordering

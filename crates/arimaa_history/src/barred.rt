@@ -1,7 +1,9 @@
 //! Barred positions.
-ghost use Rattle.std.specs.Prelude.{◌≡◌, [], ◌∷◌, ◌++◌, IfOk, OnOk, OnErr};
+ghost use Rattle.std.specs.Prelude.{◌≡◌, [], ◌∷◌, ◌++◌, IfOk, OnOk, OnErr, option_to_list};
 ghost use Rattle.arimaa_board.specs.declared.position.Position.{Position};
+ghost use Rattle.arimaa_model.specs.Members.{AreDistinct};
 ghost use Rattle.arimaa_model.specs.Results.{stands_in};
+ghost use Rattle.arimaa_history.specs.Counts.{without_last};
 
 use crate::key::Key;
 use arimaa_board::Position;
@@ -53,6 +55,17 @@ impl Barred {
         self.keys.insert(Key::of(&p))?;
         self.positions.push(p).unwrap();
         Ok(())
+    }
+
+    /// Takes the last position from the list, which has none twice, and answers it. It takes no memory.
+    pub fn pop(&mut self) -> Option<Position>
+        requires { AreDistinct self.old }
+        ensures popped { self.old ≡ self.new ++ option_to_list result }
+        ensures rest { self.new ≡ without_last self.old }
+    {
+        let p = self.positions.pop()?;
+        self.keys.remove(&Key::of(&p));
+        Some(p)
     }
 
     /// Whether a position is barred. Where none is, its key is not even made.

@@ -1,5 +1,5 @@
 //! The history of a game.
-ghost use Rattle.std.specs.Prelude.{◌≡◌, ◌↔◌, ◌<◌, ◌≤◌, [], ◌∷◌, ◌++◌, ◌==◌, ◌+◌, ◌&&◌, IfOk, OnOk, OnErr, false, not, nat_le, if◌then◌else◌};
+ghost use Rattle.std.specs.Prelude.{◌≡◌, ◌↔◌, ◌<◌, ◌≤◌, [], ◌∷◌, ◌++◌, ◌==◌, ◌+◌, ◌-◌, ◌&&◌, IfOk, IsNone, OnOk, OnErr, false, not, nat_le, option_to_list, if◌then◌else◌};
 ghost use Rattle.arimaa_board.specs.declared.position.Position.{Position};
 ghost use Rattle.arimaa_model.specs.Game.{barred_by, count_in, present};
 ghost use Rattle.arimaa_model.specs.Members.{AreDistinct, Stands};
@@ -59,6 +59,26 @@ fn add(
     Ok(())
 }
 
+// Counts a key once less, and answers how often it is counted then. A key that is counted no more
+// leaves the map.
+fn count_less(counts: &mut BTreeMap<Key, u64>, key: &Key) -> u64
+    ensures left { result ≡ count_of counts.old key.now - 1 }
+    ensures counted { IsCounted counts.old counts.new key.now (count_of counts.old key.now - 1) }
+{
+    let count = counts.get(key).copied().unwrap_or(0);
+    if count < 2 {
+        counts.remove(key);
+        return 0;
+    }
+    match counts.get_mut(key) {
+        Some(place) => {
+            *place = count - 1;
+            count - 1
+        }
+        None => 0,
+    }
+}
+
 impl History {
     /// The history with no position.
     pub fn new(alloc: Global) -> History
@@ -109,6 +129,21 @@ impl History {
         ensures refused { OnErr result (self.new ≡ self.old) }
     {
         self.push_below(p, 2)
+    }
+
+    /// Takes the last position from the history, and answers it. None exactly where the history has no
+    /// position. It takes no memory.
+    ///
+    /// The position is barred no more exactly where it stood twice.
+    pub fn pop(&mut self) -> Option<Position>
+        ensures popped { self.old ≡ self.new ++ option_to_list result }
+        ensures none { IsNone result ↔ (self.old ≡ []) }
+    {
+        let p = self.positions.pop()?;
+        if count_less(&mut self.counts, &Key::of(&p)) == 1 {
+            self.barred.pop();
+        }
+        Some(p)
     }
 
     /// How often a position stands in the history, with the same side to move.

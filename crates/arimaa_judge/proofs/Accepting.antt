@@ -18,6 +18,7 @@ closed_stays s (line.Setup number side setup) = record { rule = refl; after = re
 closed_stays s (line.Turn number side noted) = record { rule = refl; after = refl }
 closed_stays s (line.Closing number side word) = record { rule = refl; after = refl }
 closed_stays s (line.Bare number side) = record { rule = refl; after = refl }
+closed_stays s (line.Takeback number side) = record { rule = refl; after = refl }
 
 -- what the reader grants of a line
 granted : (bytes : List ℕ) (l : RecordLine) → IsLineText bytes l → IsGranted l
@@ -27,6 +28,7 @@ granted bytes (line.Setup number side setup) text = text.2.1
 granted bytes (line.Turn number side noted) text = tt
 granted bytes (line.Closing number side word) text = tt
 granted bytes (line.Bare number side) text = tt
+granted bytes (line.Takeback number side) text = tt
 
 pub granted_reading : (bytes : List ℕ) (r : Reading) → IsLineReading bytes r → IfOk r IsGranted
 granted_reading bytes (Ok l) read = granted bytes l read

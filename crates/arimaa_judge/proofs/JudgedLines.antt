@@ -26,22 +26,6 @@ pub good_line : (s t : RecordState) (text : List ℕ) (lines : List (List ℕ)) 
 good_line s t text lines number judged takes later =
     (takes.reading, takes.read, rw takes.rule (rw takes.after at later))
 
--- a line has at most one turn
-turns_after : (s : RecordState) (r : Reading) → (after_reading s r).turns ≤ s.turns + 1
-turns_after s (Err f) = omega arith
-turns_after s (Ok line.Blank) = omega arith
-turns_after s (Ok (line.Start number side board)) = omega arith
-turns_after s (Ok (line.Setup number side setup)) = by_gold s.gold where
-  by_gold : (gold : Option Lineup) → (with_setup_after s setup gold).turns ≤ s.turns + 1
-  by_gold None = omega arith
-  by_gold (Some g) = omega arith
-turns_after s (Ok (line.Turn number side noted)) = omega arith
-turns_after s (Ok (line.Closing number side word)) = omega arith
-turns_after s (Ok (line.Bare number side)) = omega arith
-
-pub turns_taken : (s t : RecordState) (text : List ℕ) → TakesLine s text None t → t.turns ≤ s.turns + 1
-turns_taken s t text takes = rw takes.after (turns_after s takes.reading)
-
 -- two outcomes at a line are one, where those of the later lines are
 one_outcome : (broken : Option Rule) (number : ℕ) (due : Label) (a b : Judged) (later : Judged → Type 0) → (later a → later b → a ≡ b)
     → IsOutcome broken number due a (later a) → IsOutcome broken number due b (later b) → a ≡ b

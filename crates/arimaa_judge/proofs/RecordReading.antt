@@ -17,7 +17,7 @@ use Rattle.arimaa_judge.specs.declared.progress.Progress.{Progress}
 use Rattle.arimaa_judge.specs.Judged.{IsJudged}
 use Rattle.arimaa_judge.specs.Stop.{stop_of}
 use Rattle.arimaa_judge.specs.declared.stop.JudgeStop.TheVariants as stop
-use Rattle.arimaa_judge.specs.Progress.{IsAtBegin, IsCounted, LeadsOn, LeadsTo}
+use Rattle.arimaa_judge.specs.Progress.{IsAtBegin, LeadsOn, LeadsTo}
 
 -- so many bytes were taken from a source
 pub record Took (taken : ℕ) (left now : Option (List ℕ)) : Type 0 where
@@ -50,11 +50,10 @@ pub record Reading (reader : LineReader) (progress : Progress) (left now : Optio
   pub sound : reader.has_failed ≡ false
   pub limit : reader.taken ≤ INPUT_LIMIT
   pub bound : progress.number + length reader.held ≤ reader.taken
-  pub counted : IsCounted progress
 
 -- nothing has been read
-pub reading-start : (reader : LineReader) (progress : Progress) (left : Option (List ℕ)) → IsNew reader → IsAtBegin progress → IsCounted progress → Reading reader progress left left
-reading-start reader progress left new begin counted = record {
+pub reading-start : (reader : LineReader) (progress : Progress) (left : Option (List ℕ)) → IsNew reader → IsAtBegin progress → Reading reader progress left left
+reading-start reader progress left new begin = record {
   took = record { all = []; told = none_before left; counted = new.taken };
   ended = λ flag. absurd (cc (new.open_input));
   leads = λ later judged known leads.
@@ -62,7 +61,6 @@ reading-start reader progress left new begin counted = record {
   sound = new.sound;
   limit = omega (arith, new.taken);
   bound = omega (arith, new.taken, begin.number, ap length new.held);
-  counted = counted;
 }
 
 -- before the end a call does what it does then
@@ -74,10 +72,10 @@ advances before after mid now line next = by before.is_ended refl where
 
 -- one more line
 pub reading-more : (before after : LineReader) (progress longer : Progress) (left mid now : Option (List ℕ)) (line : List ℕ)
-    → Reading before progress left mid → IsNext before after mid now (Ok (Some line)) → LeadsOn progress line longer → longer.number ≤ progress.number + 1 → IsCounted longer
+    → Reading before progress left mid → IsNext before after mid now (Ok (Some line)) → LeadsOn progress line longer → longer.number ≤ progress.number + 1
     → Reading after longer left now
 unfolding took-more
-reading-more before after progress longer left mid now line r next leads_on number counted =
+reading-more before after progress longer left mid now line r next leads_on number =
     let a = advances before after mid now line next in
     let t = a.takes in
     record {
@@ -92,7 +90,6 @@ reading-more before after progress longer left mid now line r next leads_on numb
       sound = a.failed;
       limit = below_limit a;
       bound = omega (arith, r.bound, a.line.shorter, number);
-      counted = counted;
     }
   where
     below_limit : Advances before after mid now (Ok (Some line)) → after.taken ≤ INPUT_LIMIT

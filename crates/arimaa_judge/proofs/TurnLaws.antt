@@ -1,6 +1,6 @@
 -- What the game answers to a turn is what the rules of records say of it.
 use Rattle.std.proofs.Common.{◌≡◌, ◌≤◌, ℕ, Bool, true, false, cond, List, [], ◌∷◌, ◌++◌, Option, None, Some, Ok, Err, length, reverse, refl, sym, ap, ◌∙◌, nat_le}
-use Rattle.std.specs.Prelude.{Result, is_some}
+use Rattle.std.specs.Prelude.{◌==◌, IfErr, OnOk, Result, is_ok, is_some, not}
 use Rattle.std.proofs.lemmas.List.{length-map}
 use Rattle.arimaa_board.specs.Noted.{noted_turn, noted_marks}
 use Rattle.arimaa_board.specs.declared.position.Position.{Position}
@@ -19,7 +19,7 @@ use Rattle.arimaa_step.proofs.Outcomes.{apply_law}
 use Rattle.arimaa_game.specs.declared.fault.GameFault.{GameFault}
 use Rattle.arimaa_game.specs.declared.fault.GameFault.TheVariants as faults
 use Rattle.arimaa_game.specs.Faults.{IsFaultOf, rule_broken}
-use Rattle.arimaa_game.specs.Play.{GoesOn, Play, ending_of, has_right_marks, played_noted, unless_marked, unless_third}
+use Rattle.arimaa_game.specs.Play.{GoesOn, Play, ending_of, has_right_marks, played_noted, take_back_fault, turns_in, unless_marked, unless_third}
 use Rattle.arimaa_game.proofs.Endings.{unclosed-ending}
 use Rattle.arimaa_game.proofs.Turns.{played-running}
 use Rattle.arimaa_judge.specs.RecordState.{with_turn}
@@ -41,8 +41,24 @@ never_over false h (Ok q) is = by_count (nat_le 2 (count_in h q)) is where
   by_count true e = cc
   by_count false e = cc
 
+-- nor that no turn stands
+never_no_turn : (marked : Bool) (h : List Position) (r : Result Position ApplyFault) → IsFaultOf (unless_marked marked (unless_third h r)) faults.NoTurn → ⊥
+never_no_turn true h (Err (applying.Step place f)) is = cc
+never_no_turn true h (Err (applying.Turn f)) is = cc
+never_no_turn false h (Err (applying.Step place f)) is = cc
+never_no_turn false h (Err (applying.Turn f)) is = cc
+never_no_turn true h (Ok q) is = by_count (nat_le 2 (count_in h q)) is where
+  by_count : (v : Bool) → IsFaultOf (cond v (Err faults.Repeat) (Ok q)) faults.NoTurn → ⊥
+  by_count true e = cc
+  by_count false e = cc
+never_no_turn false h (Ok q) is = by_count (nat_le 2 (count_in h q)) is where
+  by_count : (v : Bool) → IsFaultOf (unless_marked false (cond v (Err faults.Repeat) (Ok q))) faults.NoTurn → ⊥
+  by_count true e = cc
+  by_count false e = cc
+
 same_rule : (marked : Bool) (h : List Position) (r : Result Position ApplyFault) (e : GameFault) → IsFaultOf (unless_marked marked (unless_third h r)) e → rule_of_game_fault e ≡ rule_of_first (rule_broken e)
 same_rule marked h r faults.Over is = absurd (never_over marked h r is)
+same_rule marked h r faults.NoTurn is = absurd (never_no_turn marked h r is)
 same_rule marked h r (faults.Step place f) is = refl
 same_rule marked h r faults.Mark is = refl
 same_rule marked h r (faults.Turn f) is = refl
@@ -91,3 +107,26 @@ goes_on old new noted under_way on = rw on.3 (record { begun = filled old.histor
   filled : (h : List Position) (q : Position) → is_nil (h ++ q ∷ []) ≡ false
   filled [] q = refl
   filled (p ∷ h) q = refl
+
+-- a turn is taken back exactly where one stands
+pub stood : (g : Play) (r : Result Position GameFault) → g.closing ≡ None → ending g.history ≡ None
+    → OnOk r (take_back_fault g ≡ None) → IfErr r (λ e. take_back_fault g ≡ Some e)
+    → is_ok r ≡ not (turns_in g.history == 0)
+stood g r unclosed running due fault = by_answer r due fault where
+  goes : ending_of g ≡ None
+  goes = sym (unclosed-ending g.history g.closing unclosed) ∙ running
+
+  rule : take_back_fault g ≡ cond (turns_in g.history == 0) (Some faults.NoTurn) None
+  rule = rw goes refl
+
+  taken : (none : Bool) → cond none (Some faults.NoTurn) None ≡ None → true ≡ not none
+  taken true e = cc
+  taken false e = refl
+
+  refused : (none : Bool) (e : GameFault) → cond none (Some faults.NoTurn) None ≡ Some e → false ≡ not none
+  refused true e is = refl
+  refused false e is = cc
+
+  by_answer : (r : Result Position GameFault) → OnOk r (take_back_fault g ≡ None) → IfErr r (λ e. take_back_fault g ≡ Some e) → is_ok r ≡ not (turns_in g.history == 0)
+  by_answer (Ok p) due fault = taken (turns_in g.history == 0) (sym rule ∙ due)
+  by_answer (Err e) due fault = refused (turns_in g.history == 0) e (sym rule ∙ fault)

@@ -1,9 +1,9 @@
 -- What a record is: lawful, with its game, or bad at its first bad line.
-use Rattle.std.specs.Prelude.{◌≡◌, ◌⊎◌, ℕ, ◌+◌, List, [], ◌∷◌, Option, None, Some, All, is_some, if◌then◌else◌}
+use Rattle.std.specs.Prelude.{◌≡◌, ◌⊎◌, ℕ, ◌+◌, List, [], ◌∷◌, Option, None, Some, All, is_some, length, if◌then◌else◌}
 use Rattle.arimaa_board.specs.Fit.{IsFit}
 use Rattle.arimaa_board.specs.declared.ending.Ending.{Ending}
 use Rattle.arimaa_model.specs.Game.{ending}
-use Rattle.arimaa_game.specs.Play.{AreLawful}
+use Rattle.arimaa_game.specs.Play.{AreLawful, turns_in}
 use Rattle.arimaa_record.specs.Grammar.{IsLineReading}
 use Rattle.arimaa_record.specs.Lines.{lines_of}
 use Rattle.arimaa_record.specs.declared.label.Label.{Label}
@@ -14,9 +14,9 @@ use Rattle.arimaa_judge.specs.RecordState.{Reading, RecordState, after_reading, 
 use Rattle.arimaa_judge.specs.RecordStateInvariant.{IsByWord}
 use Rattle.arimaa_judge.specs.Rules.{rule_at}
 
--- a record whose lines broke no rule
+-- a record whose lines broke no rule: its turns are those that stand
 abbrev pub lawful_of : RecordState → Judged
-lawful_of s = Lawful s.history s.turns (state_ending s) s.due
+lawful_of s = Lawful s.history (length s.labels) (state_ending s) s.due
 
 -- the outcome at a line: where it breaks a rule the record is bad there, and else it is what the later lines make it
 abbrev pub IsOutcome : Option Rule → ℕ → Label → Judged → Type 0 → Type 0
@@ -54,6 +54,11 @@ HasFitBoards (Bad number due rule) = Unit {0}
 abbrev pub HasLawfulTurns : Judged → Type 0
 HasLawfulTurns (Lawful history turns ended next) = AreLawful history
 HasLawfulTurns (Bad number due rule) = Unit {0}
+
+-- the turns of a lawful record are those that brought its positions about, all but the first
+abbrev pub HasTurnCount : Judged → Type 0
+HasTurnCount (Lawful history turns ended next) = turns ≡ turns_in history
+HasTurnCount (Bad number due rule) = Unit {0}
 
 -- the game of a lawful record has ended as the rules say, or by a word
 abbrev pub HasEnding : Judged → Type 0

@@ -1,5 +1,5 @@
 -- The judgement of a record after some of its lines.
-use Rattle.std.specs.Prelude.{◌≡◌, ◌≤◌, ℕ, ◌+◌, ◌∷◌, List, None}
+use Rattle.std.specs.Prelude.{◌≡◌, ℕ, ◌+◌, ◌∷◌, List, None}
 use Rattle.arimaa_judge.specs.declared.judging.Judged.{Judged}
 use Rattle.arimaa_judge.specs.declared.progress.Progress.{Progress}
 use Rattle.arimaa_judge.specs.RecordState.{before_lines}
@@ -20,7 +20,3 @@ LeadsTo progress later judged = IsOutcome progress.broken progress.number progre
 abbrev pub LeadsOn : Progress → List ℕ → Progress → Type 0
 LeadsOn before line after = (later : List (List ℕ)) (judged : Judged)
     → LeadsTo after later judged → LeadsTo before (line ∷ later) judged
-
--- no more turns than lines
-abbrev pub IsCounted : Progress → Type 0
-IsCounted progress = progress.state.turns ≤ progress.number

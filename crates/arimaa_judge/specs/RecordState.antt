@@ -1,5 +1,5 @@
 -- What the lines of a record have brought about so far.
-use Rattle.std.specs.Prelude.{ℕ, ◌+◌, Bool, false, true, List, [], ◌∷◌, ◌++◌, reverse, Option, None, Some, Result, Ok, Err, is_some, not, ◌||◌}
+use Rattle.std.specs.Prelude.{Bool, false, true, List, [], ◌∷◌, ◌++◌, reverse, Option, None, Some, Result, Ok, Err, is_some, not, ◌||◌}
 use Rattle.arimaa_board.specs.declared.board.Board.{Board}
 use Rattle.arimaa_board.specs.declared.piece.Color.{Color}
 use Rattle.arimaa_board.specs.declared.piece.Color.TheVariants.{Gold}
@@ -18,16 +18,19 @@ use Rattle.arimaa_record.specs.declared.line.RecordLine.{RecordLine}
 use Rattle.arimaa_record.specs.declared.line.RecordLine.TheVariants as line
 use Rattle.arimaa_record.specs.declared.fault.LineFault.{LineFault}
 use Rattle.arimaa_game.specs.Setups.{position_after_setups}
+use Rattle.arimaa_history.specs.Counts.{without_last}
 
 -- what a line of a record was read as
 abbrev pub Reading : Type 0
 Reading = Result RecordLine LineFault
 
--- the state of a record before a line: Gold's setup while Silver's is due, the positions of the game, the number of turns, the label that is due, whether a closing or bare line came before, and the ending that a closing word declared
+-- the state of a record before a line: Gold's setup while Silver's is due, the positions of the
+-- game, the labels of the turn lines that stand, the last first, the label that is due, whether a
+-- closing or bare line came before, and the ending that a closing word declared
 pub record RecordState : Type 0 where
   pub gold : Option Lineup
   pub history : List Position
-  pub turns : ℕ
+  pub labels : List Label
   pub due : Label
   pub closed : Bool
   pub word : Option Ending
@@ -38,7 +41,7 @@ first_label = label_of 1 Gold
 
 -- before the first line
 abbrev pub before_lines : RecordState
-before_lines = record { gold = None; history = []; turns = 0; due = first_label; closed = false; word = None }
+before_lines = record { gold = None; history = []; labels = []; due = first_label; closed = false; word = None }
 
 -- the game has a position: a turn is due, and no setup
 abbrev pub is_playing : RecordState → Bool
@@ -83,7 +86,7 @@ with_setup s lineup = with_setup_after s lineup s.gold
 
 -- after a turn that is played
 abbrev pub with_played : RecordState → List Step → RecordState
-with_played s steps = record s { history = with_turn s.history steps; turns = s.turns + 1; due = next_label s.due }
+with_played s steps = record s { history = with_turn s.history steps; labels = s.due ∷ s.labels; due = next_label s.due }
 
 -- the side whose setup or turn is due: the side to move, and before there is a position that of the label
 abbrev pub side_due : RecordState → Color
@@ -100,6 +103,17 @@ with_closing s word = record s { closed = true; word = Some (closed_by word (sid
 abbrev pub with_bare : RecordState → RecordState
 with_bare s = record s { closed = true }
 
+-- after the last of these turn lines is taken back: what it brought about is gone, and its label is
+-- due again
+abbrev pub without_turn : RecordState → List Label → RecordState
+without_turn s [] = s
+without_turn s (label ∷ labels) =
+    record s { history = without_last s.history; labels = labels; due = label }
+
+-- after a takeback
+abbrev pub with_turn_back : RecordState → RecordState
+with_turn_back s = without_turn s s.labels
+
 -- after a line that is accepted
 abbrev pub after_line : RecordState → RecordLine → RecordState
 after_line s line.Blank = s
@@ -108,6 +122,7 @@ after_line s (line.Setup number side lineup) = with_setup s lineup
 after_line s (line.Turn number side noted) = with_played s (noted_turn noted)
 after_line s (line.Closing number side word) = with_closing s word
 after_line s (line.Bare number side) = with_bare s
+after_line s (line.Takeback number side) = with_turn_back s
 
 -- the state after what a line was read as
 abbrev pub after_reading : RecordState → Reading → RecordState

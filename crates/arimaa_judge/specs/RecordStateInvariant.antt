@@ -1,5 +1,5 @@
 -- What the code keeps of a record, and what holds of it.
-use Rattle.std.specs.Prelude.{◌≡◌, false, List, [], Option, None, Some, IfSome}
+use Rattle.std.specs.Prelude.{◌≡◌, ◌≤◌, ℕ, zero, suc, false, List, [], ◌∷◌, Option, None, Some, IfSome}
 use Rattle.arimaa_board.specs.declared.piece.Color.{Color}
 use Rattle.arimaa_board.specs.declared.piece.Color.TheVariants.{Gold, Silver}
 use Rattle.arimaa_board.specs.declared.position.Position.{Position}
@@ -9,7 +9,8 @@ use Rattle.arimaa_board.specs.declared.ending.Ending.{Ending}
 use Rattle.arimaa_board.specs.declared.ending.Word.{Word}
 use Rattle.arimaa_model.specs.Game.{closed_by}
 use Rattle.arimaa_model.specs.Wins.{is_nil}
-use Rattle.arimaa_game.specs.Play.{Play}
+use Rattle.arimaa_game.specs.Play.{Play, turns_in}
+use Rattle.arimaa_record.specs.Label.{is_last_label, previous_label}
 use Rattle.arimaa_record.specs.declared.label.Label.{Label}
 use Rattle.arimaa_record.specs.declared.line.RecordLine.{RecordLine}
 use Rattle.arimaa_record.specs.declared.line.RecordLine.TheVariants as line
@@ -49,9 +50,25 @@ AreSetupsDue (stage.Playing g) side = Unit {0}
 abbrev pub IsByWord : Ending → Type 0
 IsByWord e = (word : Word) × (loser : Color) × (e ≡ closed_by word loser)
 
--- what holds of the stage, the label that is due and the ending that a word declared
-pub record IsKept (at : Stage) (due : Label) (declared : Option Ending) : Type 0 where
+-- the labels of so many turn lines that stand, the last first, where this label is due after them
+-- and so many of them have it too, as only the last label of all is due after its own turn
+abbrev pub labels_before : ℕ → ℕ → Label → List Label
+labels_before zero repeated due = []
+labels_before (suc turns) (suc repeated) due = due ∷ labels_before turns repeated due
+labels_before (suc turns) zero due =
+    previous_label due ∷ labels_before turns zero (previous_label due)
+
+-- of so many turn lines that stand, so many have the label that is due: none, but for the last
+-- label of all
+pub record AreRepeats (turns repeated : ℕ) (due : Label) : Type 0 where
+  pub last : is_last_label due ≡ false → repeated ≡ 0
+  pub few : repeated ≤ turns
+
+-- what holds of the stage, the label that is due, the number of turn lines that have it too, and
+-- the ending that a word declared
+pub record IsKept (at : Stage) (due : Label) (repeated : ℕ) (declared : Option Ending) : Type 0 where
   pub game : IsOpen at
+  pub repeats : AreRepeats (turns_in (history_of at)) repeated due
   pub setups : AreSetupsDue at due.side
   pub word : IfSome declared IsByWord
 

@@ -13,6 +13,7 @@ use Rattle.arimaa_model.specs.declared.fault.TurnFault.{TurnFault}
 use Rattle.arimaa_model.specs.declared.fault.TurnFault.TheVariants as turning
 use Rattle.arimaa_model.specs.FirstFaults.{first_fault_in}
 use Rattle.arimaa_model.specs.Game.{present}
+use Rattle.arimaa_model.specs.Wins.{is_nil}
 use Rattle.arimaa_game.specs.declared.fault.GameFault.{GameFault}
 use Rattle.arimaa_game.specs.declared.fault.GameFault.TheVariants as refusing
 use Rattle.arimaa_record.specs.Label.{label_of}
@@ -64,9 +65,10 @@ turn_rule h noted = played_from (present h) where
   played_from None = None
   played_from (Some p) = rule_of_first (first_fault_in h p (noted_turn noted) (noted_marks noted))
 
--- the rule that a turn breaks which a game refuses: want of memory breaks none
+-- the rule that a line breaks which a game refuses: want of memory breaks none
 abbrev pub rule_of_game_fault : GameFault → Option Rule
 rule_of_game_fault refusing.Over = Some rule.Over
+rule_of_game_fault refusing.NoTurn = Some rule.Takeback
 rule_of_game_fault (refusing.Step _ fault) = Some (rule_of_step fault)
 rule_of_game_fault refusing.Mark = Some rule.Mark
 rule_of_game_fault (refusing.Turn fault) = Some (rule_of_turn fault)
@@ -93,6 +95,11 @@ abbrev pub rule_of_turn_line : RecordState → Label → List NotedStep → Opti
 rule_of_turn_line s label noted =
     option_or (rule_of_label s label) (if is_playing s then turn_rule s.history noted else Some rule.Form)
 
+-- a takeback needs a turn that stands
+abbrev pub rule_of_takeback : RecordState → Label → Option Rule
+rule_of_takeback s label =
+    option_or (rule_of_label s label) (if is_nil s.labels then Some rule.Takeback else None)
+
 -- a label alone has to be the one that is due
 abbrev pub rule_of_bare : RecordState → Label → Option Rule
 rule_of_bare s label = if not (same_label s.due label) then Some rule.Number else None
@@ -105,6 +112,7 @@ rule_of_line s (line.Setup number side setup) = rule_of_setup s (label_of number
 rule_of_line s (line.Turn number side noted) = rule_of_turn_line s (label_of number side) noted
 rule_of_line s (line.Closing number side word) = rule_of_label s (label_of number side)
 rule_of_line s (line.Bare number side) = rule_of_bare s (label_of number side)
+rule_of_line s (line.Takeback number side) = rule_of_takeback s (label_of number side)
 
 -- the first rule that a line breaks which is none of a record's lines, where no line has closed the record
 abbrev pub rule_of_line_fault : RecordState → LineFault → Rule

@@ -40,6 +40,7 @@ rule_word rule.Form = codes "form"
 rule_word rule.Start = codes "start"
 rule_word rule.Number = codes "number"
 rule_word rule.Over = codes "over"
+rule_word rule.Takeback = codes "takeback"
 rule_word rule.Setup = codes "setup"
 rule_word rule.Piece = codes "piece"
 rule_word rule.Target = codes "target"
@@ -57,7 +58,7 @@ abbrev pub state_line : Option Ending → Label → List ℕ
 state_line (Some e) next = line (codes "winner " ++ side_word e.winner ++ 32 ∷ cause_word e.cause)
 state_line None next = line (codes "next " ++ text_of_label next)
 
--- a lawful record: the number of its turns, and how the game stands
+-- a lawful record: the number of its turns that stand, and how the game stands
 abbrev pub text_of_lawful : ℕ → Option Ending → Label → List ℕ
 text_of_lawful turns ending next = line (codes "lawful " ++ decimal turns) ++ state_line ending next
 

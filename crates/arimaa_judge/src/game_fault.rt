@@ -1,4 +1,4 @@
-//! The rules that turns break in a game.
+//! The rules that turns and takebacks break in a game.
 ghost use Rattle.std.specs.Prelude.{◌≡◌};
 ghost use Rattle.arimaa_judge.specs.Rules.{rule_of_step, rule_of_turn, rule_of_game_fault};
 
@@ -32,12 +32,13 @@ fn rule_of_turn(fault: TurnFault) -> Rule
     }
 }
 
-// The rule that a turn breaks which a game refuses. Want of memory breaks none.
+// The rule that a line breaks which a game refuses. Want of memory breaks none.
 pub(crate) fn rule_of_game_fault(fault: GameFault) -> Option<Rule>
     ensures { result ≡ rule_of_game_fault fault }
 {
     match fault {
         GameFault::Over => Some(Rule::Over),
+        GameFault::NoTurn => Some(Rule::Takeback),
         GameFault::Step { place: _, fault } => Some(rule_of_step(fault)),
         GameFault::Mark => Some(Rule::Mark),
         GameFault::Turn(fault) => Some(rule_of_turn(fault)),

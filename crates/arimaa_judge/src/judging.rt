@@ -3,7 +3,7 @@ ghost use Rattle.std.specs.Prelude.{◌≡◌, ◌≤◌, ◌<◌, ℕ, List, []
 ghost use Rattle.std.specs.Io.KnownBytes.{prepend_known};
 ghost use Rattle.arimaa_outside.specs.Faults.{HasRisen};
 ghost use Rattle.arimaa_outside.specs.declared.source.TheConstants.{INPUT_LIMIT};
-ghost use Rattle.arimaa_judge.specs.Judged.{IsJudged, HasFitBoards, HasLawfulTurns, HasEnding};
+ghost use Rattle.arimaa_judge.specs.Judged.{IsJudged, HasFitBoards, HasLawfulTurns, HasTurnCount, HasEnding};
 
 use crate::progress::Progress;
 use crate::rule::Rule;
@@ -19,9 +19,9 @@ use std::alloc::{AllocError, Global};
 pub enum Judged {
     /// Each line is fine where it stands.
     Lawful {
-        /// The positions of the game; none as long as a setup is due.
+        /// The positions of the game as it stands; none as long as a setup is due.
         history: History,
-        /// The number of turn lines.
+        /// The number of turn lines that stand: those that were not taken back.
         turns: u64,
         /// How the game has ended, if it has: by a closing word, or else by the rules.
         ending: Option<Ending>,
@@ -47,6 +47,7 @@ pub fn judge(alloc: Global, bytes: &[u8]) -> Result<Judged, AllocError>
     ensures judged { IfOk result (λ judged. IsJudged bytes.now judged) }
     ensures fit { IfOk result HasFitBoards }
     ensures lawful { IfOk result HasLawfulTurns }
+    ensures counted { IfOk result HasTurnCount }
     ensures ended { IfOk result HasEnding }
 {
     let mut progress = Progress::before_lines();
@@ -80,6 +81,7 @@ pub fn judge_from<I: Source>(alloc: Global, input: &mut I) -> Result<Judged, Jud
         (λ bytes. length bytes ≤ INPUT_LIMIT)) }
     ensures fit { IfOk result HasFitBoards }
     ensures lawful { IfOk result HasLawfulTurns }
+    ensures counted { IfOk result HasTurnCount }
     ensures ended { IfOk result HasEnding }
 
     ensures too_long { IsErrOf result JudgeStop.TooLong

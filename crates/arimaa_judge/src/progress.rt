@@ -1,7 +1,7 @@
 //! The judgement of a record after some of its lines.
 ghost use Rattle.std.specs.Prelude.{◌≡◌, ◌≤◌, ◌<◌, ◌+◌, ◌^◌, [], IfOk, OnOk, is_some};
-ghost use Rattle.arimaa_judge.specs.Judged.{HasEnding, HasFitBoards, HasLawfulTurns};
-ghost use Rattle.arimaa_judge.specs.Progress.{IsAtBegin, IsCounted, LeadsOn, LeadsTo};
+ghost use Rattle.arimaa_judge.specs.Judged.{HasEnding, HasFitBoards, HasLawfulTurns, HasTurnCount};
+ghost use Rattle.arimaa_judge.specs.Progress.{IsAtBegin, LeadsOn, LeadsTo};
 
 use crate::judging::Judged;
 use crate::record_state::RecordState;
@@ -22,8 +22,7 @@ pub struct Progress {
 impl Progress {
     /// Before the first line.
     pub fn before_lines() -> Progress
-        ensures at_begin { IsAtBegin result }
-        ensures counted { IsCounted result }
+        ensures { IsAtBegin result }
     {
         Progress {
             state: RecordState::before_lines(),
@@ -41,11 +40,9 @@ impl Progress {
 
     /// Takes a line. After the first bad line all stays.
     pub fn take_line(&mut self, alloc: Global, line: &[u8]) -> Result<(), AllocError>
-        requires room { self.old.number + 1 < 2 ^ 64 }
-        requires counted { IsCounted self.old }
+        requires { self.old.number + 1 < 2 ^ 64 }
         ensures leads { OnOk result (LeadsOn self.old line.now self.new) }
         ensures number { self.new.number ≤ self.old.number + 1 }
-        ensures counted { OnOk result (IsCounted self.new) }
     {
         if self.broken.is_none() {
             self.number += 1;
@@ -59,6 +56,7 @@ impl Progress {
         ensures leads { LeadsTo self [] result }
         ensures fit { HasFitBoards result }
         ensures lawful { HasLawfulTurns result }
+        ensures counted { HasTurnCount result }
         ensures ended { HasEnding result }
     {
         match self.broken {

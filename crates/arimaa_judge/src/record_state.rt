@@ -1,14 +1,16 @@
 //! The state of a record after some of its lines.
-ghost use Rattle.std.specs.Prelude.{◌≡◌, ◌+◌, ◌<◌, ◌^◌, Ok, Err, None, Some, IfOk, All, not, is_some, if◌then◌else◌};
+ghost use Rattle.std.specs.Prelude.{◌≡◌, ◌==◌, ◌+◌, ◌-◌, ◌<◌, ◌∷◌, ℕ, Ok, Err, None, Some, IfOk, OnErr, All, not, is_some, length, if◌then◌else◌};
 ghost use Rattle.arimaa_board.specs.Fit.{IsFit};
 ghost use Rattle.arimaa_board.specs.Noted.{noted_turn};
 ghost use Rattle.arimaa_model.specs.Game.{ending};
 ghost use Rattle.arimaa_model.specs.Wins.{is_nil};
-ghost use Rattle.arimaa_game.specs.Play.{AreLawful};
-ghost use Rattle.arimaa_judge.specs.RecordState.{RecordState as State, after_line, before_lines, declared_or, side_due, with_closing, with_bare, with_played, with_setup, with_start, with_turn};
-ghost use Rattle.arimaa_judge.specs.RecordStateInvariant.{IsGranted, IsOpen, IsUnderWay, history_of};
-ghost use Rattle.arimaa_judge.specs.Rules.{rule_after_closing, rule_at, rule_of_bare, rule_of_line_fault, rule_of_label, rule_of_line, rule_of_setup, rule_of_start, rule_of_turn_line, same_label, turn_rule};
-ghost use Rattle.arimaa_judge.specs.Judged.{Accepts, TakesLine, HasFitBoards, HasLawfulTurns, HasEnding, lawful_of};
+ghost use Rattle.arimaa_game.specs.Play.{AreLawful, turns_in};
+ghost use Rattle.arimaa_history.specs.Counts.{without_last};
+ghost use Rattle.arimaa_record.specs.Label.{is_last_label, next_label};
+ghost use Rattle.arimaa_judge.specs.RecordState.{RecordState as State, after_line, before_lines, declared_or, side_due, with_closing, with_bare, with_played, with_setup, with_start, with_turn, with_turn_back};
+ghost use Rattle.arimaa_judge.specs.RecordStateInvariant.{AreRepeats, IsGranted, IsOpen, IsUnderWay, history_of, labels_before};
+ghost use Rattle.arimaa_judge.specs.Rules.{rule_after_closing, rule_at, rule_of_bare, rule_of_line_fault, rule_of_label, rule_of_line, rule_of_setup, rule_of_start, rule_of_takeback, rule_of_turn_line, same_label, turn_rule};
+ghost use Rattle.arimaa_judge.specs.Judged.{Accepts, TakesLine, HasFitBoards, HasLawfulTurns, HasTurnCount, HasEnding, lawful_of};
 
 use crate::game_fault::rule_of_game_fault;
 use crate::judging::Judged;
@@ -34,14 +36,15 @@ pub enum Stage {
 
 /// The state of a record before a line, where no line before it broke a rule.
 ///
-/// A contract sees it with Gold's setup and the positions of the game in place of the stage.
+/// A contract sees it with Gold's setup and the positions of the game in place of the stage, and with
+/// the labels of the turn lines that stand.
 #[derive(Drop)]
 pub struct RecordState {
     stage: Stage,
-    // the number of turn lines
-    turns: u64,
     // the label that is due
     due: Label,
+    // the number of turn lines that stand and have the label that is due, the last of all
+    repeated: u64,
     // whether a closing or bare line came before
     closed: bool,
     // the ending that a closing word declared
@@ -50,13 +53,14 @@ pub struct RecordState {
 
 impl Model for RecordState {
     ghost use Rattle.arimaa_judge.specs.RecordState.{RecordState as State};
-    ghost use Rattle.arimaa_judge.specs.RecordStateInvariant.{gold_of, history_of, IsKept};
+    ghost use Rattle.arimaa_game.specs.Play.{turns_in};
+    ghost use Rattle.arimaa_judge.specs.RecordStateInvariant.{gold_of, history_of, labels_before, IsKept};
 
     ghost Value = { State };
 
-    ghost view = { λ s. record { gold = gold_of s.stage; history = history_of s.stage; turns = s.turns; due = s.due; closed = s.closed; word = s.word } };
+    ghost view = { λ s. record { gold = gold_of s.stage; history = history_of s.stage; labels = labels_before (turns_in (history_of s.stage)) s.repeated s.due; due = s.due; closed = s.closed; word = s.word } };
 
-    ghost invariant = { λ s. IsKept s.stage s.due s.word };
+    ghost invariant = { λ s. IsKept s.stage s.due s.repeated s.word };
 }
 
 // Whether the game has a position.
@@ -91,6 +95,7 @@ fn play_turn(game: &mut Game, noted: &Noted) -> Result<Option<Rule>, AllocError>
     ensures history { IfOk result (λ broken. game.new.history ≡ (if is_some broken then game.old.history
         else with_turn game.old.history (noted_turn noted.now))) }
     ensures under_way { IsUnderWay game.new }
+    ensures refused { OnErr result (game.new ≡ game.old) }
 {
     let _present = game.now();
     let _few = noted.steps();
@@ -100,6 +105,60 @@ fn play_turn(game: &mut Game, noted: &Noted) -> Result<Option<Rule>, AllocError>
             Some(rule) => Ok(Some(rule)),
             None => Err(AllocError),
         },
+    }
+}
+
+// Takes back the last turn of a game that goes on, and answers whether a turn stood.
+fn take_back(game: &mut Game) -> bool
+    requires under_way { IsUnderWay game.old }
+    requires running { ending game.old.history ≡ None }
+    ensures stood { result ≡ not (turns_in game.old.history == 0) }
+    ensures history { game.new.history
+        ≡ (if result then without_last game.old.history else game.old.history) }
+    ensures under_way { IsUnderWay game.new }
+{
+    game.take_back().is_ok()
+}
+
+// The number of turns that stand in the game.
+fn turns_in(stage: &Stage) -> u64
+    ensures { result ≡ turns_in (history_of stage.now) }
+{
+    match stage {
+        Stage::Begin => 0,
+        Stage::GoldPlaced(_) => 0,
+        Stage::Playing(game) => game.turns(),
+    }
+}
+
+// How many of so many turn lines that stand have the label that is due after them, where the last of
+// them has this label, and so many of those before it too.
+fn repeated_after(due: Label, repeated: u64, turns: u64) -> u64
+    requires some { 0 < turns }
+    requires repeats { AreRepeats (turns - 1) repeated due }
+    ensures labels { labels_before turns result (next_label due)
+        ≡ due ∷ labels_before (turns - 1) repeated due }
+    ensures repeats { AreRepeats turns result (next_label due) }
+{
+    if due.is_last() {
+        repeated + 1
+    } else {
+        0
+    }
+}
+
+// The label of the last turn that stands, where this one is due, and how many of the turn lines
+// before it have the same label.
+fn label_taken_back(due: Label, repeated: u64) -> (Label, u64)
+    ensures labels { (turns : ℕ)
+        → labels_before (turns + 1) repeated due ≡ result.0 ∷ labels_before turns result.1 result.0 }
+    ensures repeats { (turns : ℕ) → AreRepeats (turns + 1) repeated due
+        → AreRepeats turns result.1 result.0 }
+{
+    if 0 < repeated {
+        (due, repeated - 1)
+    } else {
+        (due.previous(), 0)
     }
 }
 
@@ -164,8 +223,8 @@ impl RecordState {
     {
         RecordState {
             stage: Stage::Begin,
-            turns: 0,
             due: Label::new(1, Color::Gold),
+            repeated: 0,
             closed: false,
             word: None,
         }
@@ -270,7 +329,6 @@ impl RecordState {
 
     // Plays a turn, unless the line breaks a rule.
     fn play(&mut self, label: Label, noted: &Noted) -> Result<Option<Rule>, AllocError>
-        requires room { self.old.turns + 1 < 2 ^ 64 }
         ensures { IfOk result (λ broken. Accepts self.old (rule_of_turn_line self.old label noted.now)
             (with_played self.old (noted_turn noted.now)) broken self.new) }
     {
@@ -281,12 +339,32 @@ impl RecordState {
             Stage::Playing(game) => {
                 let broken = play_turn(game, noted)?;
                 if broken.is_none() {
-                    self.turns += 1;
+                    self.repeated = repeated_after(self.due, self.repeated, game.turns());
                     self.due = self.due.next();
                 }
                 Ok(broken)
             }
             _ => Ok(Some(Rule::Form)),
+        }
+    }
+
+    // Takes the last turn back, unless the line breaks a rule: the label of that turn is due again.
+    fn take_back(&mut self, label: Label) -> Option<Rule>
+        ensures { Accepts self.old (rule_of_takeback self.old label)
+            (with_turn_back self.old) result self.new }
+    {
+        if let Some(rule) = self.rule_of_label(label) {
+            return Some(rule);
+        }
+        match &mut self.stage {
+            Stage::Playing(game) => {
+                if !take_back(game) {
+                    return Some(Rule::Takeback);
+                }
+                (self.due, self.repeated) = label_taken_back(self.due, self.repeated);
+                None
+            }
+            _ => Some(Rule::Takeback),
         }
     }
 
@@ -317,8 +395,7 @@ impl RecordState {
 
     // Takes a line where no line has closed the record, unless it breaks a rule, and answers that rule.
     fn take_open(&mut self, alloc: Global, line: RecordLine) -> Result<Option<Rule>, AllocError>
-        requires granted { IsGranted line }
-        requires room { self.old.turns + 1 < 2 ^ 64 }
+        requires { IsGranted line }
         ensures { IfOk result (λ broken. Accepts self.old (rule_of_line self.old line)
             (after_line self.old line) broken self.new) }
     {
@@ -343,13 +420,15 @@ impl RecordState {
                 Ok(self.close(Label::new(number, side), word))
             }
             RecordLine::Bare { number, side } => Ok(self.break_off(Label::new(number, side))),
+            RecordLine::Takeback { number, side } => {
+                Ok(self.take_back(Label::new(number, side)))
+            }
         }
     }
 
     // Takes a line that could be read, unless it breaks a rule, and answers that rule.
     fn take(&mut self, alloc: Global, line: RecordLine) -> Result<Option<Rule>, AllocError>
-        requires granted { IsGranted line }
-        requires room { self.old.turns + 1 < 2 ^ 64 }
+        requires { IsGranted line }
         ensures { IfOk result (λ broken. Accepts self.old (rule_at self.old (Ok line))
             (after_line self.old line) broken self.new) }
     {
@@ -362,7 +441,6 @@ impl RecordState {
 
     /// Takes a line, unless it breaks a rule, and answers that rule.
     pub fn take_line(&mut self, alloc: Global, line: &[u8]) -> Result<Option<Rule>, AllocError>
-        requires { self.old.turns + 1 < 2 ^ 64 }
         ensures { IfOk result (λ broken. TakesLine self.old line.now broken self.new) }
     {
         match read_line(line) {
@@ -376,13 +454,15 @@ impl RecordState {
         ensures value { result ≡ lawful_of self }
         ensures fit { HasFitBoards result }
         ensures lawful { HasLawfulTurns result }
+        ensures counted { HasTurnCount result }
         ensures ended { HasEnding result }
     {
         let ending = declared_or(self.word, ending_in(&self.stage));
+        let turns = turns_in(&self.stage);
         let RecordState {
             stage,
-            turns,
             due,
+            repeated: _,
             closed: _,
             word: _,
         } = self;

@@ -14,7 +14,7 @@ pub enum Rule {
     Text,
     /// A turn of more than four steps.
     Steps,
-    /// A start line that is not the first line with content; or, tested after `Over`, a setup where
+    /// A start line that is not the first line with content; or, tested after `Takeback`, a setup where
     /// a turn is due, or a turn where a setup is due. Setups are due until the game has a position.
     Form,
     /// A start line whose text is no board, or one whose board cannot stand.
@@ -23,6 +23,8 @@ pub enum Rule {
     Number,
     /// The rules have ended the game, and the line is more than a label.
     Over,
+    /// A takeback where no turn stands. Setups and start lines are not taken back.
+    Takeback,
     /// The entries of a setup line are not each home square of the side once, with exactly its army.
     Setup,
     /// The first step that is refused: its square does not hold the named piece.
@@ -60,6 +62,7 @@ impl Rule {
             Rule::Start => b"start",
             Rule::Number => b"number",
             Rule::Over => b"over",
+            Rule::Takeback => b"takeback",
             Rule::Setup => b"setup",
             Rule::Piece => b"piece",
             Rule::Target => b"target",

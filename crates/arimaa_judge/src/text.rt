@@ -67,7 +67,7 @@ pub fn push_state(
     Ok(())
 }
 
-/// The text about a lawful record: `lawful` and the number of its turns, and a line that tells how the game
+/// The text about a lawful record: `lawful` and the number of its turns that stand, and a line that tells how the game
 /// stands.
 pub fn lawful_text(
     alloc: Global,

@@ -35,7 +35,7 @@ use Rattle.arimaa_record.specs.declared.fault.LineFault.{LineFault}
 use Rattle.arimaa_record.specs.declared.fault.LineFault.TheVariants as fault
 use Rattle.arimaa_record.specs.Label.{IsLabel, label_of}
 use Rattle.arimaa_notation.specs.Items.{trimmed}
-use Rattle.arimaa_record.specs.Grammar.{IsStartForm, IsLabelled, HasForm, text_of_word, IsLineReading}
+use Rattle.arimaa_record.specs.Grammar.{IsStartForm, IsLabelled, HasForm, text_of_word, takeback_word, IsLineReading}
 use Rattle.arimaa_record.proofs.LabelLaws.{label_first, same_label}
 
 -- the first item begins with no blank
@@ -78,7 +78,7 @@ same_start bytes l m x y a b =
 -- a number for each form, as its first two items tell it
 content_kind : List (List ℕ) → ℕ
 content_kind [] = 7
-content_kind (x ∷ xs) = cond (length x == 3) 3 (cond (length x == 7) 5 (cond (get_or x 0 0 == 116) 6 4))
+content_kind (x ∷ xs) = cond (length x == 3) 3 (cond (length x == 7) 5 (cond (length x == 8) 8 (cond (get_or x 0 0 == 116) 6 4)))
 
 line_kind : List (List ℕ) → ℕ
 line_kind [] = 1
@@ -96,6 +96,7 @@ kind_of (Ok (line.Setup number side setup)) = 3
 kind_of (Ok (line.Turn number side noted)) = 4
 kind_of (Ok (line.Closing number side word)) = kind_of_word word
 kind_of (Ok (line.Bare number side)) = 7
+kind_of (Ok (line.Takeback number side)) = 8
 kind_of (Err fault.Text) = 0
 kind_of (Err (fault.Steps number side)) = 4
 kind_of (Err (fault.BadStart number side f)) = 2
@@ -159,6 +160,7 @@ kind_read bytes (Ok (line.Setup number side setup)) k h =
 kind_read bytes (Ok (line.Turn number side noted)) k h = steps_kind h.0 noted h.2.0 h.2.1 ∙ label_kind bytes (label_of number side) h.0 h.1
 kind_read bytes (Ok (line.Closing number side word)) k h = word_kind word ∙ label_kind bytes (label_of number side) (text_of_word word ∷ []) h
 kind_read bytes (Ok (line.Bare number side)) k h = label_kind bytes (label_of number side) [] h
+kind_read bytes (Ok (line.Takeback number side)) k h = label_kind bytes (label_of number side) (takeback_word ∷ []) h
 kind_read bytes (Err fault.Text) k h = absurd (omega arith)
 kind_read bytes (Err (fault.Steps number side)) k h = steps_kind h.0 h.2.0 h.2.1 (omega (arith, h.2.2)) ∙ label_kind bytes (label_of number side) h.0 h.1
 kind_read bytes (Err (fault.BadStart number side f)) k h = start_kind bytes (label_of number side) h.0 h.1
@@ -189,6 +191,9 @@ Moved bytes r = (label : Label) × (items : List (List ℕ)) × (q : Result (Lis
 
 abbrev Closed : List ℕ → Word → Result RecordLine LineFault → Type 0
 Closed bytes word r = (label : Label) × IsLabelled bytes label (text_of_word word ∷ []) × (r ≡ Ok (line.Closing label.number label.side word))
+
+abbrev Taken : List ℕ → Result RecordLine LineFault → Type 0
+Taken bytes r = (label : Label) × IsLabelled bytes label (takeback_word ∷ []) × (r ≡ Ok (line.Takeback label.number label.side))
 
 abbrev Bared : List ℕ → Result RecordLine LineFault → Type 0
 Bared bytes r = (label : Label) × IsLabelled bytes label [] × (r ≡ Ok (line.Bare label.number label.side))
@@ -245,6 +250,14 @@ bared bytes (Ok (line.Closing number side Time)) e h = absurd (omega arith)
 bared bytes (Err fault.Text) e h = absurd (omega arith)
 bared bytes r e h = absurd (omega arith)
 
+taken : (bytes : List ℕ) (r : Result RecordLine LineFault) → kind_of r ≡ 8 → IsLineReading bytes r → Taken bytes r
+unfolding kind_of kind_of_word
+taken bytes (Ok (line.Takeback number side)) e h = (label_of number side, h, refl)
+taken bytes (Ok (line.Closing number side Resigns)) e h = absurd (omega arith)
+taken bytes (Ok (line.Closing number side Time)) e h = absurd (omega arith)
+taken bytes (Err fault.Text) e h = absurd (omega arith)
+taken bytes r e h = absurd (omega arith)
+
 start_apart : (bytes : List ℕ) (r s : Result RecordLine LineFault) → Started bytes r → Started bytes s → r ≡ s
 start_apart bytes r s a b =
     let same = same_start bytes a.0 b.0 a.1 b.1 a.2 b.2 in
@@ -274,6 +287,11 @@ bare_apart bytes r s a b =
     let same = same_labelled bytes a.0 b.0 [] [] a.1 b.1 in
     a.2 ∙ ((λ i. Ok (line.Bare (same.0 i).number (same.0 i).side)) ∙ sym b.2)
 
+takeback_apart : (bytes : List ℕ) (r s : Result RecordLine LineFault) → Taken bytes r → Taken bytes s → r ≡ s
+takeback_apart bytes r s a b =
+    let same = same_labelled bytes a.0 b.0 (takeback_word ∷ []) (takeback_word ∷ []) a.1 b.1 in
+    a.2 ∙ ((λ i. Ok (line.Takeback (same.0 i).number (same.0 i).side)) ∙ sym b.2)
+
 -- what is read has one of the forms, but for the fault of text
 pub has_form : (bytes : List ℕ) (r : Result RecordLine LineFault) → 0 < kind_of r → IsLineReading bytes r → HasForm bytes
 unfolding kind_of
@@ -281,7 +299,8 @@ has_form bytes (Ok line.Blank) k h = inl h
 has_form bytes (Ok (line.Start number side board)) k h = inr (inl (label_of number side, h.0, h.1))
 has_form bytes (Ok (line.Setup number side setup)) k h = inr (inr (label_of number side, h.0, h.1, inr (inl (h.2.0.0, h.2.0.1))))
 has_form bytes (Ok (line.Turn number side noted)) k h = inr (inr (label_of number side, h.0, h.1, inr (inr (inl (noted, h.2.0)))))
-has_form bytes (Ok (line.Closing number side word)) k h = inr (inr (label_of number side, text_of_word word ∷ [], h, inr (inr (inr (word, refl)))))
+has_form bytes (Ok (line.Closing number side word)) k h = inr (inr (label_of number side, text_of_word word ∷ [], h, inr (inr (inr (inl (word, refl))))))
+has_form bytes (Ok (line.Takeback number side)) k h = inr (inr (label_of number side, takeback_word ∷ [], h, inr (inr (inr (inr refl)))))
 has_form bytes (Ok (line.Bare number side)) k h = inr (inr (label_of number side, [], h, inl refl))
 has_form bytes (Err fault.Text) k h = absurd (omega arith)
 has_form bytes (Err (fault.Steps number side)) k h = inr (inr (label_of number side, h.0, h.1, inr (inr (inl (h.2.0, h.2.1)))))
@@ -305,6 +324,9 @@ module _ (bytes : List ℕ) (r s : Result RecordLine LineFault) (a : IsLineReadi
   bare_same : kind_of r ≡ 7 → kind_of s ≡ 7 → r ≡ s
   bare_same i j = bare_apart bytes r s (bared bytes r i a) (bared bytes s j b)
 
+  takeback_same : kind_of r ≡ 8 → kind_of s ≡ 8 → r ≡ s
+  takeback_same i j = takeback_apart bytes r s (taken bytes r i a) (taken bytes s j b)
+
 same_kind : (bytes : List ℕ) (r s : Result RecordLine LineFault) → IsLineReading bytes r → IsLineReading bytes s → 0 < kind_of r → kind_of s ≡ kind_of r → r ≡ s
 unfolding kind_of
 same_kind bytes (Ok line.Blank) s a b k e = sym (blank_kind s e)
@@ -313,6 +335,7 @@ same_kind bytes (Ok (line.Setup number side setup)) s a b k e = setup_same bytes
 same_kind bytes (Ok (line.Turn number side noted)) s a b k e = turn_same bytes (Ok (line.Turn number side noted)) s a b refl e
 same_kind bytes (Ok (line.Closing number side word)) s a b k e = word_same bytes (Ok (line.Closing number side word)) s a b word refl e
 same_kind bytes (Ok (line.Bare number side)) s a b k e = bare_same bytes (Ok (line.Bare number side)) s a b refl e
+same_kind bytes (Ok (line.Takeback number side)) s a b k e = takeback_same bytes (Ok (line.Takeback number side)) s a b refl e
 same_kind bytes (Err fault.Text) s a b k e = absurd (omega arith)
 same_kind bytes (Err (fault.Steps number side)) s a b k e = turn_same bytes (Err (fault.Steps number side)) s a b refl e
 same_kind bytes (Err (fault.BadStart number side f)) s a b k e = start_same bytes (Err (fault.BadStart number side f)) s a b refl e

@@ -8,3 +8,4 @@ pub mod ReaderLaws
 pub mod RecordReading
 pub mod PlainLaws
 pub mod WrittenBack
+pub mod LabelOrder

@@ -28,7 +28,7 @@ use Rattle.arimaa_record.specs.declared.label.Label.{Label}
 use Rattle.arimaa_record.specs.declared.line.RecordLine.{RecordLine}
 use Rattle.arimaa_record.specs.declared.line.RecordLine.TheVariants as line
 use Rattle.arimaa_record.specs.Label.{label_of, letter_of_side, text_of_label}
-use Rattle.arimaa_record.specs.Grammar.{text_of_word}
+use Rattle.arimaa_record.specs.Grammar.{text_of_word, takeback_word}
 use Rattle.arimaa_record.specs.Lines.{is_feed, lines_of_pieces, lines_of}
 use Rattle.arimaa_record.specs.Written.{IsInRange, IsWritable, parts_of_line, spaced, text_of_line}
 use Rattle.arimaa_record.proofs.LineLaws.{lines_of_pieces-cons}
@@ -118,6 +118,10 @@ parts_plain (line.Setup number side setup) h = (plain_seen _ (label_seen (label_
 parts_plain (line.Turn number side noted) h = (plain_seen _ (label_seen (label_of number side) h.0), turn_plain noted)
 parts_plain (line.Closing number side word) h = (plain_seen _ (label_seen (label_of number side) h), (word_plain word, tt))
 parts_plain (line.Bare number side) h = (plain_seen _ (label_seen (label_of number side) h), tt)
+parts_plain (line.Takeback number side) h = (plain_seen _ (label_seen (label_of number side) h), (takeback_plain, tt))
+  where
+    takeback_plain : IsPlain takeback_word
+    takeback_plain = (omega arith, (omega arith, (omega arith, (omega arith, (omega arith, (omega arith, (omega arith, (omega arith, tt))))))))
 
 spaced_plain : (parts : List (List ℕ)) → AllByRecursion IsPlain parts → IsPlain (spaced parts)
 spaced_plain [] all = tt

@@ -20,7 +20,7 @@ use Rattle.arimaa_record.specs.declared.label.Label.{Label}
 use Rattle.arimaa_record.specs.declared.line.RecordLine.{RecordLine}
 use Rattle.arimaa_record.specs.declared.fault.LineFault.{LineFault}
 use Rattle.arimaa_record.specs.Label.{IsLabel}
-use Rattle.arimaa_record.specs.Grammar.{IsStartForm, IsLabelled, IsNoWord, IsNoOtherContent, IsContent, HasForm, IsLineReading, text_of_word}
+use Rattle.arimaa_record.specs.Grammar.{IsStartForm, IsLabelled, IsNoWord, IsNoOtherContent, IsContent, HasForm, IsLineReading, text_of_word, takeback_word}
 use Rattle.arimaa_record.proofs.LabelLaws.{label_first}
 use Rattle.arimaa_record.proofs.FormLaws.{head_same, same_first, same_labelled, one_reading}
 
@@ -112,7 +112,8 @@ no_content bytes label items f token a b h other form = by_content (labelled_for
     by_content (inl none) = other.others.some none
     by_content (inr (inl entries)) = other.no_entries entries.0 entries.1
     by_content (inr (inr (inl steps))) = no_steps items f token a b other.others.some steps.0 steps.1
-    by_content (inr (inr (inr word))) = other.others.no_word word.0 word.1
+    by_content (inr (inr (inr (inl word)))) = other.others.no_word word.0 word.1
+    by_content (inr (inr (inr (inr takeback)))) = other.others.no_takeback takeback
 
 bad_entries : (items : List (List ℕ)) (number : ℕ) → IsFirstBadEntry items number → (es : List (ℕ × Piece)) → AreEntries items es → ⊥
 bad_entries items number bad es h = bad.bad (take number es) (record { spelled = ap (take number) h.spelled ∙ take-map text_of_entry number es; on_board = all_take number es h.on_board })
@@ -129,10 +130,11 @@ err_same e = ap Err e
 
 -- a first item that is no word alone
 pub no_word : (text item : List ℕ) (rest : List (List ℕ)) → items_of text ≡ item ∷ rest
-    → ((w : Word) → item ∷ rest ≡ text_of_word w ∷ [] → ⊥) → IsNoWord (items_of text)
-no_word text item rest first never = record {
+    → ((w : Word) → item ∷ rest ≡ text_of_word w ∷ [] → ⊥) → (item ∷ rest ≡ takeback_word ∷ [] → ⊥) → IsNoWord (items_of text)
+no_word text item rest first never no_takeback = record {
   some = λ none. let both : item ∷ rest ≡ [] = sym first ∙ none in cc;
   no_word = λ w is. never w (sym first ∙ is);
+  no_takeback = λ is. no_takeback (sym first ∙ is);
 }
 
 -- the first item of entries has three bytes

@@ -29,7 +29,7 @@ use Rattle.arimaa_record.specs.declared.line.RecordLine.TheVariants as line
 use Rattle.arimaa_record.specs.Label.{side_of_letter, IsLabel, label_of, letter_of_side, text_of_label}
 use Rattle.arimaa_notation.specs.Items.{without_last_blanks, trimmed}
 use Rattle.arimaa_record.specs.Lines.{is_feed, lines_of_pieces, lines_of}
-use Rattle.arimaa_record.specs.Grammar.{IsStartForm, IsLabelled, text_of_word, IsLineText}
+use Rattle.arimaa_record.specs.Grammar.{IsStartForm, IsLabelled, text_of_word, takeback_word, IsLineText}
 use Rattle.arimaa_record.specs.Record.{AreLines}
 use Rattle.arimaa_record.specs.Written.{IsInRange, IsWritable, spaced, text_of_line, ended_line, text_of_record}
 use Rattle.arimaa_record.proofs.LineLaws.{lines_of_pieces-cons, no_lines}
@@ -88,6 +88,13 @@ closing_back number side word = λ h. subst (IsLabelled (text_of_line (line.Clos
 bare_back : (number : ℕ) (side : Color) → ReadsBack (line.Bare number side)
 bare_back number side = λ h. subst (IsLabelled (text_of_line (line.Bare number side)) (label_of number side)) no_items (labelled (label_of number side) [] h)
 
+takeback_item : items_of (spaced (takeback_word ∷ [])) ≡ takeback_word ∷ []
+unfolding items_of
+takeback_item = refl
+
+takeback_back : (number : ℕ) (side : Color) → ReadsBack (line.Takeback number side)
+takeback_back number side = λ h. subst (IsLabelled (text_of_line (line.Takeback number side)) (label_of number side)) takeback_item (labelled (label_of number side) (takeback_word ∷ []) h)
+
 -- a board's text has no blank at its ends
 last_closed : (xs : List ℕ) → without_last_blanks (xs ++ 93 ∷ []) ≡ xs ++ 93 ∷ []
 last_closed xs =
@@ -128,6 +135,7 @@ IsPartsText (line.Setup number side setup) = IsSetupText (text_of_setup setup) s
 IsPartsText (line.Turn number side noted) = 0 < length noted → IsTurnText (text_of_turn noted) noted
 IsPartsText (line.Closing number side word) = Unit {0}
 IsPartsText (line.Bare number side) = Unit {0}
+IsPartsText (line.Takeback number side) = Unit {0}
 
 pub line_back : (l : RecordLine) → IsPartsText l → ReadsBack l
 line_back line.Blank p = blank_back
@@ -136,6 +144,7 @@ line_back (line.Setup number side setup) p = setup_back number side setup p
 line_back (line.Turn number side noted) p = turn_back number side noted p
 line_back (line.Closing number side word) p = closing_back number side word
 line_back (line.Bare number side) p = bare_back number side
+line_back (line.Takeback number side) p = takeback_back number side
 
 lines_written : (ls : List RecordLine) → AllByRecursion IsWritable ls → lines_of (text_of_record ls) ≡ map text_of_line ls
 lines_written [] all = no_lines

@@ -47,18 +47,25 @@ abbrev pub text_of_word : Word → List ℕ
 text_of_word Resigns = codes "resigns"
 text_of_word Time = codes "time"
 
--- what may follow a label: nothing, entries, steps with their marks, or a word
+-- the word that takes a turn back
+abbrev pub takeback_word : List ℕ
+takeback_word = codes "takeback"
+
+-- what may follow a label: nothing, entries, steps with their marks, a word that ends the game, or
+-- the one that takes a turn back
 abbrev pub IsContent : List (List ℕ) → Type 0
 IsContent items =
     (items ≡ [])
     ⊎ ((es : List (ℕ × Piece)) × AreEntries items es)
     ⊎ ((ns : List NotedStep) × AreSteps items ns)
     ⊎ ((w : Word) × (items ≡ text_of_word w ∷ []))
+    ⊎ (items ≡ takeback_word ∷ [])
 
 -- what follows a label is not nothing and no word
 pub record IsNoWord (items : List (List ℕ)) : Type 0 where
   pub some : items ≢ []
   pub no_word : (w : Word) → items ≢ text_of_word w ∷ []
+  pub no_takeback : items ≢ takeback_word ∷ []
 
 -- what follows a label is not nothing, no entries and no word
 pub record IsNoOtherContent (items : List (List ℕ)) : Type 0 where
@@ -84,6 +91,8 @@ IsLineText bytes (line.Turn number side noted) = (items : List (List ℕ))
 IsLineText bytes (line.Closing number side word) = IsLabelled bytes (label_of number side)
     (text_of_word word ∷ [])
 IsLineText bytes (line.Bare number side) = IsLabelled bytes (label_of number side) []
+IsLineText bytes (line.Takeback number side) = IsLabelled bytes (label_of number side)
+    (takeback_word ∷ [])
 
 -- what is wrong with a line: it has none of the forms, its turn has more than four steps, its board
 -- text is refused, or its entries are no setup

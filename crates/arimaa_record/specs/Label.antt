@@ -1,5 +1,5 @@
 -- Labels of the lines of a record.
-use Rattle.std.specs.Prelude.{◌≡◌, ◌≤◌, ℕ, ◌+◌, ◌==◌, ◌||◌, List, [], ◌∷◌, ◌++◌, Option, None, Some, if◌then◌else◌, nat_lt}
+use Rattle.std.specs.Prelude.{◌≡◌, ◌≤◌, ℕ, ◌+◌, ◌-◌, ◌==◌, ◌||◌, Bool, false, not, List, [], ◌∷◌, ◌++◌, Option, None, Some, if◌then◌else◌, nat_lt}
 use Rattle.std.specs.Fmt.{decimal}
 use Rattle.arimaa_board.specs.declared.piece.Color.{Color}
 use Rattle.arimaa_board.specs.declared.piece.Color.TheVariants.{Gold, Silver}
@@ -35,6 +35,24 @@ label_after number Silver = if nat_lt number 999999999 then label_of
 -- the label that is due after the setup or turn of a label
 abbrev pub next_label : Label → Label
 next_label label = label_after label.number label.side
+
+-- the last label of all, 999,999,999s, which stays due after its own turn
+abbrev pub is_last_at : ℕ → Color → Bool
+is_last_at number Gold = false
+is_last_at number Silver = not (nat_lt number 999999999)
+
+-- a label is the last of all
+abbrev pub is_last_label : Label → Bool
+is_last_label label = is_last_at label.number label.side
+
+-- the label before Ns is Ng, and that before Ng is N - 1 with s
+abbrev pub label_before : ℕ → Color → Label
+label_before number Gold = label_of (number - 1) Silver
+label_before number Silver = label_of number Gold
+
+-- the label of the turn after which a label is due, but for the last label of all
+abbrev pub previous_label : Label → Label
+previous_label label = label_before label.number label.side
 
 -- the letter that a side is written with in a label
 abbrev pub letter_of_side : Color → ℕ

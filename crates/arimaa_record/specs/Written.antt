@@ -7,7 +7,7 @@ use Rattle.arimaa_notation.specs.Written.{items_of_turn, items_of_entries, joine
 use Rattle.arimaa_record.specs.declared.line.RecordLine.{RecordLine}
 use Rattle.arimaa_record.specs.declared.line.RecordLine.TheVariants as line
 use Rattle.arimaa_record.specs.Label.{label_of, text_of_label}
-use Rattle.arimaa_record.specs.Grammar.{text_of_word}
+use Rattle.arimaa_record.specs.Grammar.{text_of_word, takeback_word}
 
 -- what a line is written of: its label, and then the board, or the entries in order of square, or
 -- each step with its mark directly after it, or the word
@@ -22,6 +22,8 @@ parts_of_line (line.Turn number side noted) = text_of_label
 parts_of_line (line.Closing number side word) = text_of_label
     (label_of number side) ∷ text_of_word word ∷ []
 parts_of_line (line.Bare number side) = text_of_label (label_of number side) ∷ []
+parts_of_line (line.Takeback number side) = text_of_label
+    (label_of number side) ∷ takeback_word ∷ []
 
 -- the written form of a line without its end: its parts with one space between each two
 abbrev pub text_of_line : RecordLine → List ℕ
@@ -53,3 +55,4 @@ IsWritable (line.Setup number side setup) = IsInRange number × (setup.color ≡
 IsWritable (line.Turn number side noted) = IsInRange number × (0 < length noted)
 IsWritable (line.Closing number side word) = IsInRange number
 IsWritable (line.Bare number side) = IsInRange number
+IsWritable (line.Takeback number side) = IsInRange number

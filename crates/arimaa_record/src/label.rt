@@ -1,8 +1,8 @@
 //! Labels of the lines of a record.
-ghost use Rattle.std.specs.Prelude.{◌≡◌, ◌≤◌, ◌↔◌, ℕ, Some};
+ghost use Rattle.std.specs.Prelude.{◌≡◌, ◌≤◌, ◌↔◌, ℕ, Some, false};
 ghost use Rattle.std.specs.Fmt.{decimal};
 ghost use Rattle.arimaa_board.specs.declared.piece.Color.{Color as Side};
-ghost use Rattle.arimaa_record.specs.Label.{side_of_letter, label_of, next_label, IsLabel};
+ghost use Rattle.arimaa_record.specs.Label.{side_of_letter, label_of, next_label, previous_label, is_last_label, IsLabel};
 ghost use Rattle.arimaa_record.specs.declared.label.Label.{Label as Due};
 
 use arimaa_board::Color;
@@ -26,6 +26,29 @@ impl Label {
         ensures { result ≡ label_of number side }
     {
         Label { number, side }
+    }
+
+    /// Whether it is the last label of all, that of `MOST_LABEL` with s.
+    pub fn is_last(self) -> bool
+        ensures { result ≡ is_last_label self }
+    {
+        match self.side {
+            Color::Gold => false,
+            Color::Silver => self.number >= MOST_LABEL,
+        }
+    }
+
+    /// The label of the setup or turn after which this one is due: before Ns comes Ng, and before Ng
+    /// comes N - 1 with s. Where the last label is due, its own turn may also have come before.
+    pub fn previous(self) -> Label
+        ensures value { result ≡ previous_label self }
+        ensures back { (label : Due) → is_last_label label ≡ false → self ≡ next_label label
+            → result ≡ label }
+    {
+        match self.side {
+            Color::Gold => Label::new(self.number.saturating_sub(1), Color::Silver),
+            Color::Silver => Label::new(self.number, Color::Gold),
+        }
     }
 
     /// The label that is due after the setup or turn of this one: after Ng comes Ns, and after Ns

@@ -39,4 +39,9 @@ pub enum RecordLine {
         number: u32,
         side: Color,
     },
+    /// The last turn that stands is taken back. The label is the one that was due after it.
+    Takeback {
+        number: u32,
+        side: Color,
+    },
 }

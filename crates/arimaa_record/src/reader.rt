@@ -4,7 +4,7 @@ ghost use Rattle.arimaa_board.specs.declared.ending.Word.{Word as ClosingWord};
 ghost use Rattle.arimaa_notation.specs.Items.{items_of, IsFirstItem};
 ghost use Rattle.arimaa_record.specs.declared.line.RecordLine.{RecordLine as LineValue};
 ghost use Rattle.arimaa_record.specs.declared.fault.LineFault.{LineFault as FaultValue};
-ghost use Rattle.arimaa_record.specs.Grammar.{text_of_word, IsBlankLine, IsLabelled, IsStartForm, IsNoWord, IsNoOtherContent, IsLineText, IsLineFault, IsLineReading};
+ghost use Rattle.arimaa_record.specs.Grammar.{text_of_word, takeback_word, IsBlankLine, IsLabelled, IsStartForm, IsNoWord, IsNoOtherContent, IsLineText, IsLineFault, IsLineReading};
 
 use crate::fault::LineFault;
 use crate::label::{Label, read_label};
@@ -18,7 +18,7 @@ use arimaa_notation::{NoteFault, first_item, read_setup, read_turn, trim};
 /// items is `Blank`, and so is a comment, whose first item begins with `#` and which may hold any
 /// bytes. Else the line is `start`, a label, and a board's text, which is the rest of the line; or
 /// it begins with a label, and after it come entries of a setup, or the steps of a turn with their
-/// removal marks, or `resigns` or `time`, or nothing.
+/// removal marks, or `resigns` or `time`, or `takeback`, or nothing.
 ///
 /// `Text` is answered where the line has none of these forms, `Steps` where a turn has more than
 /// four steps, `BadStart` where the board's text is refused, and `BadSetup` where the entries are
@@ -107,6 +107,27 @@ fn only_word(item: &[u8], rest: &[u8]) -> Option<Word>
     }
 }
 
+// Whether an item is the word that takes a turn back.
+fn is_takeback(item: &[u8]) -> bool
+    ensures { IsTrue result ↔ (item.now ≡ takeback_word) }
+{
+    match item {
+        b"takeback" => true,
+        _ => false,
+    }
+}
+
+// Whether this item is the word that takes a turn back, and no item follows it.
+fn is_only_takeback(item: &[u8], rest: &[u8]) -> bool
+    ensures { IsTrue result ↔ (item.now ∷ items_of rest.now ≡ takeback_word ∷ []) }
+{
+    if is_takeback(item) {
+        is_without_items(rest)
+    } else {
+        false
+    }
+}
+
 // What a line says, or what is wrong with it.
 fn reading(bytes: &[u8]) -> Result<RecordLine, LineFault>
     ensures { IsLineReading bytes.now result }
@@ -171,6 +192,9 @@ fn read_content(label: Label, text: &[u8]) -> Result<RecordLine, LineFault>
     };
     if let Some(word) = only_word(item, rest) {
         return Ok(RecordLine::Closing { number, side, word });
+    }
+    if is_only_takeback(item, rest) {
+        return Ok(RecordLine::Takeback { number, side });
     }
     if item.len() == 3 {
         read_entries(label, text)

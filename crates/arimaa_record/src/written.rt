@@ -105,6 +105,10 @@ fn push_content(alloc: Global, text: &mut Vec<u8>, line: &RecordLine) -> Result<
             push_part(text, word_text(*word))
         }
         RecordLine::Bare { number, side } => { push_label(alloc, text, Label::new(*number, *side)) }
+        RecordLine::Takeback { number, side } => {
+            push_label(alloc, text, Label::new(*number, *side))?;
+            push_part(text, b"takeback")
+        }
     }
 }
 

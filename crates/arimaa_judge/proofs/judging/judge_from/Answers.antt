@@ -6,7 +6,7 @@ use Rattle.arimaa_judge.proofs.judging.judge_from.Goals as goal
 
 pub lines-init : goal.lines-init
 lines-init g c = record {
-  reading = reading-start _ _ _ c.in_ok-reader.ensures c.before_lines-progress.ensures.at_begin c.before_lines-progress.ensures.counted;
+  reading = reading-start _ _ _ c.in_ok-reader.ensures c.before_lines-progress.ensures;
   sound = search rules;
 }
 
@@ -15,7 +15,7 @@ lines-preserved g c =
     let given : given_bytes c.next.result ≡ Ok (Some c.in-Some.line.now) = ap given_bytes (c.in_ok-line.was ∙ ap Ok c.in-Some.is) in
     let next = subst (IsNext _ _ _ _) given c.next.follows.holds-at-none in
     record {
-      reading = reading-more _ _ _ _ _ _ _ _ c.lines.invariant.reading next c.in_ok-take_line.ensures.leads c.in_ok-take_line.ensures.number c.in_ok-take_line.ensures.counted;
+      reading = reading-more _ _ _ _ _ _ _ _ c.lines.invariant.reading next c.in_ok-take_line.ensures.leads c.in_ok-take_line.ensures.number;
       sound = search rules;
     }
 

@@ -42,3 +42,8 @@ returns-in_ok-push_label-in-Closing-clause-reads_back c =
 
 pub returns-in-Bare-clause-reads_back : goal.returns-in-Bare-clause-reads_back
 returns-in-Bare-clause-reads_back c = on_ok c.push_label-in-Bare.result (subst ReadsBack (sym c.in-Bare.is) (line_back (line.Bare c.in-Bare.number c.in-Bare.side) tt))
+
+pub returns-in_ok-push_label-in-Takeback-clause-reads_back :
+    goal.returns-in_ok-push_label-in-Takeback-clause-reads_back
+returns-in_ok-push_label-in-Takeback-clause-reads_back c =
+    on_ok c.push_part-in-Takeback.result (subst ReadsBack (sym c.in-Takeback.is) (line_back (line.Takeback c.in-Takeback.number c.in-Takeback.side) tt))
