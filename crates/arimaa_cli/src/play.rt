@@ -1,12 +1,14 @@
 //! The command `play`: a match between two programs.
-ghost use Rattle.std.specs.Prelude.{◌≡◌, IfNone, IfSome, codes};
+ghost use Rattle.std.specs.Prelude.{◌≡◌, ◌≢◌, IfNone, IfSome, codes};
 ghost use Rattle.arimaa_judge.specs.Texts.{line};
-ghost use Rattle.arimaa_outside.specs.declared.status.Status.TheVariants.{Words};
+ghost use Rattle.arimaa_outside.specs.declared.status.Status.TheVariants.{Memory, Words};
 ghost use Rattle.arimaa_cli.specs.Calls.{EndsWith, Outputs};
 ghost use Rattle.arimaa_cli.specs.declared.play.Pairing.{Pairing as Match};
 ghost use Rattle.arimaa_cli.specs.Play.{AsksNoMatch, AsksToPlay, Played, status_at};
+ghost use Rattle.arimaa_cli.specs.Reading.{AsRead};
 
 use crate::calls::write;
+use crate::other_words::{as_read, other_words};
 use crate::words::{TextWord, is_named, text_word};
 use arimaa_match::{MatchEnd, match_text, play_programs};
 use arimaa_outside::{Clock, CommandWords, Sink, Spawner, Status};
@@ -95,20 +97,24 @@ pub fn run_play<O: Sink, S: Spawner, K: Clock>(
     spawner: &mut S,
     clock: &mut K,
 ) -> Status
-    ensures played { (asked : Match) → AsksToPlay words.now asked
+    ensures played { AsRead words.now (λ read. (asked : Match) → AsksToPlay read asked
         → Played S.Link.sent S.Link.answers S.Link.counts asked.control result
         (record { waiting = S.waiting spawner.old; back = S.back spawner.old; answers = S.answers spawner.old })
         (record { waiting = S.waiting spawner.new; back = S.back spawner.new; answers = S.answers spawner.new })
         (S.counts spawner.old) (S.counts spawner.new) (K.given clock.old) (K.given clock.new)
-        (O.contents output.old) (O.contents output.new) }
-    ensures bad_words { AsksNoMatch words.now → EndsWith result (O.contents output.old)
-        (O.contents output.new) Words (line (codes "bad words")) }
-    ensures spawner { AsksNoMatch words.now → spawner.new ≡ spawner.old }
-    ensures clock { AsksNoMatch words.now → clock.new ≡ clock.old }
+        (O.contents output.old) (O.contents output.new)) }
+    ensures bad_words { AsRead words.now (λ read. AsksNoMatch read → result ≢ Memory
+        → EndsWith result (O.contents output.old) (O.contents output.new) Words
+        (line (codes "bad words"))) }
+    ensures spawner { AsRead words.now (λ read. AsksNoMatch read → spawner.new ≡ spawner.old) }
+    ensures clock { AsRead words.now (λ read. AsksNoMatch read → clock.new ≡ clock.old) }
     ensures output { Outputs result (O.contents output.old) (O.contents output.new)
         (O.faults output.old) (O.faults output.new) }
 {
-    match read_play(words) {
+    let Ok(other) = other_words(alloc, words) else {
+        return Status::Memory;
+    };
+    match read_play(as_read(words, &other)) {
         Some(asked) => play(alloc, &asked, output, spawner, clock),
         None => write(output, Status::Words, b"bad words\n"),
     }

@@ -18,3 +18,5 @@ mod rows;
 mod runs;
 #[cfg(test)]
 mod strategies;
+#[cfg(test)]
+mod words;
