@@ -8,10 +8,16 @@ mod escape;
 mod escape_line;
 mod escapes;
 mod fault;
+mod finding;
 mod laws;
+mod place;
 mod reader;
 #[cfg(test)]
 mod tests;
+mod verified;
+mod verifier;
+#[cfg(test)]
+mod verifier_tests;
 mod written_form;
 
 pub use escape::Escape;
@@ -19,4 +25,6 @@ pub use escapes::Escapes;
 pub use fault::EscapeFault;
 pub use laws::{held_roots_are_not_won, own_escapes_hold};
 pub use reader::read_escapes;
+pub use verified::{Flaw, Verified};
+pub use verifier::verify;
 pub use written_form::escapes_text;
