@@ -29,7 +29,7 @@ flaw_free t w o fails rest = rw fails rest
 not_both : (w : Flaw) → ◌≡◌ {A = Option Flaw} (Some w) None → ⊥
 not_both w e = let wrong : true ≡ false = cc in true≢false wrong
 
-is_none : {X : Type 0} (o : Option X) → is_some o ≡ false → o ≡ None
+pub is_none : {X : Type 0} (o : Option X) → is_some o ≡ false → o ≡ None
 is_none None h = refl
 is_none (Some x) h = absurd (true≢false h)
 

@@ -5,3 +5,7 @@ pub mod PlaceLaws
 pub mod Waiting
 pub mod FlawLaws
 pub mod VerifyLaws
+pub mod FirstEvasions
+pub mod Noting
+pub mod Levels
+pub mod RefutationLaws

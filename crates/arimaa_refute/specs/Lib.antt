@@ -6,3 +6,4 @@ pub mod OwnEscapes
 pub mod Flaws
 pub mod Findings
 pub mod Checks
+pub mod Refutations

@@ -28,8 +28,8 @@ const WALK: [Row; 13] = [
     (b"1", b"Re1 rh6", b"rh6s"),
 ];
 
-// The pieces of a root with Silver to move, a number of turns, escapes from Gold, and what is found:
-// no flaw, or the escape and its flaw.
+// The pieces of a root with Silver to move, a number of turns, escapes from Gold, and what is
+// found: no flaw, or the escape and its flaw.
 const SMALL: [(&[u8], u8, &[Row], u64, Option<Flaw>); 20] = [
     (b"Ra2 rh6", 0, &[], 0, None),
     (b"Ra2 rh1", 9, &[], 0, None),
@@ -256,7 +256,7 @@ fn too_little_room(rt: HostRuntime) -> Result<(), Fail> {
     let crowded = Verified::Crowded { position: root };
     assert_eq!(rt; found(rt.alloc(), &[root], 2, 13, &WALK)?, crowded);
     let crowded = Verified::Crowded { position: reached };
-    assert_eq!(rt; found(rt.alloc(), &[root], 2, 14, &deeper(b"2"))?, crowded);
+    assert_eq!(rt; found(rt.alloc(), &[root], 2, 13, &deeper(b"2"))?, crowded);
     // nothing is asked for where no turn is left
     assert_eq!(rt;
         found(rt.alloc(), &[root], 0, 1, &WALK)?,
