@@ -16,6 +16,7 @@ use Rattle.arimaa_refute.specs.declared.escape.Escape.{Escape}
 use Rattle.arimaa_refute.specs.declared.fault.EscapeFault.{EscapeFault}
 use Rattle.arimaa_refute.specs.declared.fault.EscapeFault.TheVariants.{Text, Memory}
 use Rattle.arimaa_refute.specs.Escapes.{entry_of}
+use Rattle.arimaa_refute.specs.Checks.{IsFrom}
 use Rattle.arimaa_refute.specs.Text.{HasDepth, IsEscapeText, IsGoodLine, IsEscapesText, IsFirstBadLine, IsEscapesReading, IsWritableEscape}
 
 -- an entry as an escape, with its rank as the depth
@@ -37,11 +38,11 @@ same-escapes c d e = sym (back c) ∙ (ap (λ (l : List Entry). map escape_of l)
   back [] = refl
   back (x ∷ c) = ap (λ l. x ∷ l) (back c)
 
-map-more : (c : List Escape) (e : Escape) → map entry_of (c ++ e ∷ []) ≡ map entry_of c ++ entry_of e ∷ []
+pub map-more : (c : List Escape) (e : Escape) → map entry_of (c ++ e ∷ []) ≡ map entry_of c ++ entry_of e ∷ []
 map-more [] e = refl
 map-more (x ∷ c) e = ap (λ l. entry_of x ∷ l) (map-more c e)
 
-all-more : {X : Type 0} (P : X → Type 0) (xs : List X) (x : X) → AllByRecursion P xs → P x → AllByRecursion P (xs ++ x ∷ [])
+pub all-more : {X : Type 0} (P : X → Type 0) (xs : List X) (x : X) → AllByRecursion P xs → P x → AllByRecursion P (xs ++ x ∷ [])
 all-more P [] x all one = (one, tt)
 all-more P (y ∷ xs) x all one = (all.0, all-more P xs x all.1 one)
 
@@ -137,6 +138,24 @@ module _ (a : Color) where
   bad-read bytes (Ok c) n x y = absurd (text-no-bad bytes c n x y)
   bad-read bytes (Err (Text m)) n x y = inl (let same = same-bad (lines_of bytes) m n x y in λ i. Err (Text (same i)))
   bad-read bytes (Err Memory) n x y = inr refl
+
+  -- the defender is to move in each entry that lines say
+  sides : (lines : List (List ℕ)) (os : List (Option Entry)) → AreLinesOf (other_color a) lines os → AllByRecursion (λ e. e.position.side ≡ other_color a) (said_entries os)
+  sides [] [] all = tt
+  sides [] (o ∷ os) all = absurd all
+  sides (l ∷ lines) [] all = absurd all
+  sides (l ∷ lines) (None ∷ os) all = sides lines os all.1
+  sides (l ∷ lines) (Some e ∷ os) all = (all.0.side, sides lines os all.1)
+
+  from-all : (c : List Escape) → AllByRecursion (λ e. e.position.side ≡ other_color a) (map entry_of c) → AllByRecursion HasDepth c → AllByRecursion (IsFrom a) c
+  from-all [] side depth = tt
+  from-all (e ∷ c) side depth = (record { side = side.0; depth = depth.0 }, from-all c side.1 depth.1)
+
+  -- what is read is from the attacker
+  pub read-from : (bytes : List ℕ) (r : Result (List Escape) EscapeFault) → IsEscapesReading bytes a r → IfOk r (λ c. AllByRecursion (IsFrom a) c)
+  read-from bytes (Ok c) x = from-all c (subst (λ (l : List Entry). AllByRecursion (λ (e : Entry). e.position.side ≡ other_color a) l) (sym x.entries.entries) (sides (lines_of bytes) x.entries.said x.entries.lines)) x.depths
+  read-from bytes (Err (Text n)) x = tt
+  read-from bytes (Err Memory) x = tt
 
   -- what is written to be read back is a strategy's text that is read back
   writable-all : (c : List Escape) → AllByRecursion (IsWritableEscape a) c → AllByRecursion (IsWritable (other_color a)) (map entry_of c)

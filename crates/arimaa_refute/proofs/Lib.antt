@@ -1,3 +1,11 @@
-pub mod HeldRoots
 pub mod EscapeReading
+pub mod HeldRoots
 pub mod OwnEscapesHold
+pub mod PlaceLaws
+pub mod Waiting
+pub mod FlawLaws
+pub mod VerifyLaws
+pub mod FirstEvasions
+pub mod Noting
+pub mod Levels
+pub mod RefutationLaws

@@ -21,7 +21,7 @@ use Rattle.arimaa_forced.specs.Entries.{planned_of, has_right_marks, entry_with_
 use Rattle.arimaa_forced.proofs.NotedEntries.{planned-written, written-marked}
 use Rattle.arimaa_refute.specs.declared.escape.Escape.{Escape}
 use Rattle.arimaa_refute.specs.Escapes.{is_escape_of, has_escape, can_wait, safe_for, is_safe, are_safe, held_for, is_held, IsGoodEscape, AreGoodEscapes, Holds}
-use Rattle.arimaa_refute.specs.OwnEscapes.{evades, first_evasion, escape_at, after_escape, fresh, escapes_from, escapes_of}
+use Rattle.arimaa_refute.specs.OwnEscapes.{IsUnwon as IsUnwonIn, evades, first_evasion, escape_at, after_escape, fresh, escapes_from, escapes_of}
 
 -- a list where not all pass has a member that fails
 failing : (t : Position → Bool) (xs : List Position) → list_all t xs ≡ false → (x : Position) × In x xs × (t x ≡ false)
@@ -59,7 +59,7 @@ fresh-all met (q ∷ qs) =
       | false ↦ λ is. (is, fresh-all (met ++ q ∷ []) qs)
     ] refl
 
-In-fresh : (x : Position) (met qs : List Position) → In x (fresh met qs) → In x qs
+pub In-fresh : (x : Position) (met qs : List Position) → In x (fresh met qs) → In x qs
 In-fresh x met [] i = absurd i
 In-fresh x met (q ∷ qs) i =
     elim (stands_in met q) as (λ v. In x (cond v (fresh met qs) (q ∷ fresh (met ++ q ∷ []) qs)) → In x (q ∷ qs)) [
@@ -84,11 +84,8 @@ fresh-In x met (q ∷ qs) i =
 -- ---- positions that are not won
 
 module _ (a : Color) (barred : List Position) where
-  -- the defender is to move at an undecided position that is not won within d turns
-  pub record IsUnwon (d : ℕ) (p : Position) : Type 0 where
-    pub side : same_color p.side a ≡ false
-    pub undecided : decided p ≡ None
-    pub lost : wins a barred d p ≡ false
+  abbrev IsUnwon : ℕ → Position → Type 0
+  IsUnwon d p = IsUnwonIn a barred d p
 
   -- the first evasion leads to r, which is not won within k turns
   pub record Evades (k : ℕ) (p r : Position) : Type 0 where
@@ -106,7 +103,7 @@ module _ (a : Color) (barred : List Position) where
   unfolding first_evasion
   first-is k p s found = ap (λ o. unwrap_or o []) found
 
-  evasion : (k : ℕ) (p : Position) → IsUnwon (suc k) p → (r : Position) × Evades k p r
+  pub evasion : (k : ℕ) (p : Position) → IsUnwon (suc k) p → (r : Position) × Evades k p r
   evasion k p h =
       by-cases a barred p ((r : Position) × Evades k p r)
       (λ e is. let wrong : true ≡ false = cc in absurd (true≢false wrong))
@@ -132,12 +129,12 @@ module _ (a : Color) (barred : List Position) where
   next-side : (r q : Position) → same_color r.side a ≡ true → In q (next barred r) → same_color q.side a ≡ false
   next-side r q own i = side-other a r q (results-side r q (next-results barred r q i)) own
 
-  open-unwon : (k : ℕ) (r q : Position) → same_color r.side a ≡ true → wins a barred (suc k) r ≡ false → In q (open_replies barred r) → IsUnwon k q
+  pub open-unwon : (k : ℕ) (r q : Position) → same_color r.side a ≡ true → wins a barred (suc k) r ≡ false → In q (open_replies barred r) → IsUnwon k q
   open-unwon k r q own lost i =
       let w = ready-wants barred r q i in
       record { side = next-side r q own w.inside; undecided = w.undecided; lost = next-lost k r q own w.goes lost w.inside }
 
-  result-side : (p r : Position) → same_color p.side a ≡ false → In r (next barred p) → same_color r.side a ≡ true
+  pub result-side : (p r : Position) → same_color p.side a ≡ false → In r (next barred p) → same_color r.side a ≡ true
   result-side p r other i = side-own a p r (results-side p r (next-results barred p r i)) other
 
   module _ (c : List Escape) where
@@ -250,7 +247,7 @@ module _ (a : Color) (barred : List Position) where
       let there : In (escape_at a barred k q) c = subst (λ (l : List Escape). In (escape_at a barred k q) l) (sym whole) (In-right (escape_at a barred k q) prior (escapes_from a barred (suc k) met new) (first-level k met new q i)) in
       escape-has c c (escape_at a barred k q) q (suc k) there refl (omega arith)
 
-  after-unwon : (k : ℕ) (p q : Position) → IsUnwon (suc (suc k)) p → In q (after_escape a barred (suc k) p) → IsUnwon k q
+  pub after-unwon : (k : ℕ) (p q : Position) → IsUnwon (suc (suc k)) p → In q (after_escape a barred (suc k) p) → IsUnwon k q
   after-unwon k p q h i =
       let e = evasion (suc k) p h in
       open-unwon k e.0 q (result-side p e.0 h.side e.1.inside) e.1.lost (subst (λ (o : Option Position). In q (open_after barred o)) e.1.turn i)

@@ -1,6 +1,6 @@
 -- The escapes of a position that is not won: what the defender plays at each position that he may
 -- then meet.
-use Rattle.std.specs.Prelude.{ℕ, zero, suc, ◌-◌, Bool, false, not, ◌&&◌, List, [], ◌∷◌, ◌++◌, map, Option, None, Some, is_none, if◌then◌else◌}
+use Rattle.std.specs.Prelude.{◌≡◌, ℕ, zero, suc, ◌-◌, Bool, false, not, ◌&&◌, List, [], ◌∷◌, ◌++◌, map, Option, None, Some, is_none, if◌then◌else◌}
 use Rattle.std.specs.List.{find, filter, flat_map}
 use Rattle.std.specs.Option.{unwrap_or}
 use Rattle.arimaa_board.specs.declared.piece.Color.{Color}
@@ -13,6 +13,12 @@ use Rattle.arimaa_model.specs.Wins.{wins}
 use Rattle.arimaa_model.specs.Strategies.{open_replies, open_after}
 use Rattle.arimaa_forced.specs.Entries.{steps_with_marks}
 use Rattle.arimaa_refute.specs.declared.escape.Escape.{Escape}
+
+-- the defender is to move at an undecided position that is not won within d turns
+pub record IsUnwon (a : Color) (barred : List Position) (d : ℕ) (p : Position) : Type 0 where
+  pub side : same_color p.side a ≡ false
+  pub undecided : decided p ≡ None
+  pub lost : wins a barred d p ≡ false
 
 -- whether a turn leads to a position of next that is not won within k turns
 abbrev pub evades : Color → List Position → ℕ → Position → Option Position → Bool

@@ -4,14 +4,29 @@
 //! that it is. The definitions stand in `specs/`.
 #![tactic(auto)]
 
+mod asker;
 mod escape;
 mod escape_line;
 mod escapes;
+mod evasion;
+mod failure;
 mod fault;
+mod finding;
 mod laws;
+mod making;
+mod meeting;
+mod place;
 mod reader;
+mod refutation;
+#[cfg(test)]
+mod refutation_tests;
+mod refuted;
 #[cfg(test)]
 mod tests;
+mod verified;
+mod verifier;
+#[cfg(test)]
+mod verifier_tests;
 mod written_form;
 
 pub use escape::Escape;
@@ -19,4 +34,8 @@ pub use escapes::Escapes;
 pub use fault::EscapeFault;
 pub use laws::{held_roots_are_not_won, own_escapes_hold};
 pub use reader::read_escapes;
+pub use refutation::refute;
+pub use refuted::Refuted;
+pub use verified::{Flaw, Verified};
+pub use verifier::verify;
 pub use written_form::escapes_text;

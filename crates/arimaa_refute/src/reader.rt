@@ -1,7 +1,9 @@
 //! The reader of escapes.
 ghost use Rattle.std.specs.Prelude.{◌≡◌, ◌⊎◌, ℕ, List, Ok, Err, IfOk};
+ghost use Rattle.std.specs.List.{AllByRecursion};
 ghost use Rattle.arimaa_record.specs.Lines.{lines_of};
 ghost use Rattle.arimaa_refute.specs.declared.escape.Escape.{Escape as EscapeValue};
+ghost use Rattle.arimaa_refute.specs.Checks.{IsFrom};
 ghost use Rattle.arimaa_refute.specs.Text.{IsEscapesText, IsFirstBadLine, IsEscapesReading};
 
 use crate::escape_line::read_escape;
@@ -21,6 +23,7 @@ use std::alloc::Global;
 /// memory was left before it, or before the end.
 pub fn read_escapes(alloc: Global, bytes: &[u8], attacker: Color) -> Result<Escapes, EscapeFault>
     ensures entries { IfOk result (λ c. IsEscapesText bytes.now attacker c) }
+    ensures from { IfOk result (λ c. AllByRecursion (IsFrom attacker) c) }
     ensures fault { (n : ℕ) → result ≡ Err (EscapeFault.Text n)
         → IsFirstBadLine attacker (lines_of bytes.now) n }
     ensures no_other { (c : List EscapeValue) → IsEscapesText bytes.now attacker c

@@ -89,7 +89,7 @@ leads barred e r h =
       | false ↦ λ _ k. absurd (not_both r k)
     ] refl h
 
-led : (barred : List Position) (e : Entry) (r : Position) → Leads barred e r → led_to barred e ≡ Some r
+pub led : (barred : List Position) (e : Entry) (r : Position) → Leads barred e r → led_to barred e ≡ Some r
 led barred e r h = rw h.marked (ap (among_next barred e.position) h.turn ∙ rw h.allowed refl)
 
 module _ (a : Color) (barred : List Position) (s : List Entry) where

@@ -27,7 +27,7 @@ later_or None true n = refl
 later_or None false n = refl
 
 -- one more entry
-place_more : (es : List Entry) (e : Entry) (q : Position) → place_of (es ++ e ∷ []) q ≡ option_or (place_of es q) (cond (same_position e.position q) (Some (length es)) None)
+pub place_more : (es : List Entry) (e : Entry) (q : Position) → place_of (es ++ e ∷ []) q ≡ option_or (place_of es q) (cond (same_position e.position q) (Some (length es)) None)
 place_more [] e q = elim (same_position e.position q) as (λ v. cond v (Some 0) (later None) ≡ cond v (Some 0) None) [ true ↦ refl | false ↦ refl ]
 place_more (d ∷ es) e q =
     elim (same_position d.position q) as (λ v. cond v (Some 0) (later (place_of (es ++ e ∷ []) q)) ≡ option_or (cond v (Some 0) (later (place_of es q))) (cond (same_position e.position q) (Some (suc (length es))) None)) [

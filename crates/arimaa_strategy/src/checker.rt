@@ -119,9 +119,9 @@ fn look_at(
     }
 }
 
-// Where an entry leads: its turn is one of its position, with the right marks, and does not lead to
-// a barred position.
-fn led_to(barred: &Barred, entry: &Entry) -> Option<Position>
+/// Where an entry leads: the position that its turn reaches. None comes exactly where the turn is
+/// none of its position, or a removal mark is wrong, or the turn leads to a barred position.
+pub fn led_to(barred: &Barred, entry: &Entry) -> Option<Position>
     ensures { result ≡ led_to barred.now entry.now }
 {
     if !marks_fit(&entry.position, &entry.turn, Marks::Required) {

@@ -51,8 +51,10 @@ fn read_rank(item: &[u8]) -> Option<u8>
     }
 }
 
-// The board and the turn that follow the rank.
-fn read_board_and_turn(rest: &[u8]) -> Option<(Board, Noted)>
+/// The board and the turn that follow the first item of a line: after blanks the board's text, and
+/// after a blank the turn with its removal marks. None comes exactly where the bytes are no such
+/// text.
+pub fn read_board_and_turn(rest: &[u8]) -> Option<(Board, Noted)>
     ensures form { IfSome result (λ x. IsBoardAndTurn rest.now x.0 x.1) }
     ensures none { IfNone result ((b : Squares) (ns : List NotedStep)
         → ¬ IsBoardAndTurn rest.now b ns) }

@@ -14,7 +14,8 @@ mod written_form;
 
 pub use arimaa_forced::Entry;
 pub use checked::{Checked, Why};
-pub use checker::check;
+pub use checker::{check, led_to};
+pub use entry_line::read_board_and_turn;
 pub use fault::StrategyFault;
 pub use reader::read_strategy;
 pub use strategy::Strategy;
