@@ -10,7 +10,7 @@ use Rattle.arimaa_match.specs.declared.ending.MatchEnd.{MatchEnd}
 use Rattle.arimaa_match.specs.declared.ending.MatchEnd.TheVariants as end
 use Rattle.arimaa_match.specs.Programs.{HasSpawnerCause}
 use Rattle.arimaa_cli.specs.declared.play.Pairing.{Pairing}
-use Rattle.arimaa_cli.specs.Calls.{EndsWith}
+use Rattle.arimaa_outside.specs.Writing.{EndsWith}
 use Rattle.arimaa_cli.specs.Play.{AsksToPlay, HasEngineFault, status_at}
 
 -- what was written ends with its status, or with that of a failed write

@@ -13,7 +13,8 @@ use Rattle.arimaa_match.specs.Programs.{Spawned}
 use Rattle.arimaa_cli.specs.declared.commands.Call.{Call}
 use Rattle.arimaa_cli.specs.declared.commands.Command.{Command}
 use Rattle.arimaa_cli.specs.Commands.{AreWords}
-use Rattle.arimaa_cli.specs.Calls.{Answers, Inputs, Outputs}
+use Rattle.arimaa_outside.specs.Writing.{Outputs}
+use Rattle.arimaa_cli.specs.Calls.{Answers, Inputs}
 use Rattle.arimaa_cli.specs.OtherWords.{AreMatched, rows_for, values_of}
 use Rattle.arimaa_cli.specs.Play.{AsksNoMatch, Played}
 use Rattle.arimaa_cli.specs.Reading.{ArePlain, AreReadAs, AsRead}

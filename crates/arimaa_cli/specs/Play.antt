@@ -17,7 +17,7 @@ use Rattle.arimaa_match.specs.Programs.{HasSpawnerCause, ProgramsWent, Spawned}
 use Rattle.arimaa_match.specs.Records.{IsLawfulMatch}
 use Rattle.arimaa_match.specs.Texts.{text_of_match}
 use Rattle.arimaa_cli.specs.declared.play.Pairing.{Pairing}
-use Rattle.arimaa_cli.specs.Calls.{EndsWith}
+use Rattle.arimaa_outside.specs.Writing.{EndsWith}
 use Rattle.arimaa_cli.specs.declared.commands.Command.{Command}
 use Rattle.arimaa_cli.specs.Commands.{AreWords, IsTextWord}
 

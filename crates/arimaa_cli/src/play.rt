@@ -2,16 +2,15 @@
 ghost use Rattle.std.specs.Prelude.{◌≡◌, ◌≢◌, IfNone, IfSome, codes};
 ghost use Rattle.arimaa_judge.specs.Texts.{line};
 ghost use Rattle.arimaa_outside.specs.declared.status.Status.TheVariants.{Memory, Words};
-ghost use Rattle.arimaa_cli.specs.Calls.{EndsWith, Outputs};
+ghost use Rattle.arimaa_outside.specs.Writing.{EndsWith, Outputs};
 ghost use Rattle.arimaa_cli.specs.declared.play.Pairing.{Pairing as Match};
 ghost use Rattle.arimaa_cli.specs.Play.{AsksNoMatch, AsksToPlay, Played, status_at};
 ghost use Rattle.arimaa_cli.specs.Reading.{AsRead};
 
-use crate::calls::write;
 use crate::other_words::{as_read, other_words};
 use crate::words::{TextWord, is_named, text_word};
 use arimaa_match::{MatchEnd, match_text, play_programs};
-use arimaa_outside::{Clock, CommandWords, Sink, Spawner, Status};
+use arimaa_outside::{Clock, CommandWords, Sink, Spawner, Status, write_answer};
 use arimaa_time::{Control, read_control};
 use std::alloc::Global;
 
@@ -79,7 +78,7 @@ pub(crate) fn play<O: Sink, S: Spawner, K: Clock>(
         Err(_) => Status::Memory,
         Ok(done) => match match_text(alloc, &done) {
             Err(_) => Status::Memory,
-            Ok(text) => write(output, status_at(&done.ending), &text),
+            Ok(text) => write_answer(output, status_at(&done.ending), &text),
         },
     }
 }
@@ -116,6 +115,6 @@ pub fn run_play<O: Sink, S: Spawner, K: Clock>(
     };
     match read_play(as_read(words, &other)) {
         Some(asked) => play(alloc, &asked, output, spawner, clock),
-        None => write(output, Status::Words, b"bad words\n"),
+        None => write_answer(output, Status::Words, b"bad words\n"),
     }
 }
