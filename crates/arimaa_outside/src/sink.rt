@@ -61,6 +61,7 @@ pub fn write_answer<S: Sink>(sink: &mut S, status: Status, text: &[u8]) -> Statu
     ensures ends { EndsWith result (S.contents sink.old) (S.contents sink.new) status text.now }
     ensures fault { result ≢ status → HasRisen (S.faults sink.old) (S.faults sink.new) }
     ensures unfailed { result ≢ WriteFault → S.faults sink.new ≡ S.faults sink.old }
+    ensures never_falls { S.faults sink.old ≤ S.faults sink.new }
 {
     match write_all(sink, text) {
         Ok(()) => status,
