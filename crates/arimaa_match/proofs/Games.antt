@@ -43,6 +43,7 @@ played_lawful g new p noted now on first =
 -- a fault that is none of memory breaks a rule
 breaks_rule : (e : GameFault) → (e ≡ faults.Memory → ⊥) → is_some (rule_of_game_fault e) ≡ true
 breaks_rule faults.Over not = refl
+breaks_rule faults.NoTurn not = refl
 breaks_rule (faults.Step place f) not = refl
 breaks_rule faults.Mark not = refl
 breaks_rule (faults.Turn f) not = refl

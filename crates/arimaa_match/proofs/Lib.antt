@@ -12,3 +12,4 @@ pub mod Openings
 pub mod Games
 pub mod Rulings
 pub mod KeptPhases
+pub mod TurnLabels

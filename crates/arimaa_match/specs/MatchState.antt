@@ -1,5 +1,5 @@
 -- The state of a match, and what a side's answer does to it.
-use Rattle.std.specs.Prelude.{◌≡◌, ℕ, ◌+◌, List, [], ◌∷◌, ◌++◌, Bool, false, ◌||◌, Option, None, Some, Result, IfOk, codes, nat_le, is_some, if◌then◌else◌, option_map}
+use Rattle.std.specs.Prelude.{◌≡◌, ℕ, ◌+◌, List, [], ◌∷◌, ◌++◌, Bool, false, ◌||◌, Option, None, Some, Result, IfOk, codes, nat_le, is_some, length, fold, if◌then◌else◌, option_map}
 use Rattle.std.specs.Str.{bytes_eq}
 use Rattle.std.specs.declared.alloc.AllocError.{AllocError}
 use Rattle.arimaa_board.specs.declared.board.Board.{Board}
@@ -20,7 +20,8 @@ use Rattle.arimaa_model.specs.Marks.{marks_of}
 use Rattle.arimaa_step.specs.declared.marking.Marks.TheVariants.{Optional}
 use Rattle.arimaa_step.specs.MarkRules.{marks_fit}
 use Rattle.arimaa_notation.specs.Readers.{setup_of_text, turn_of_text}
-use Rattle.arimaa_record.specs.Label.{next_label}
+use Rattle.arimaa_record.specs.Label.{label_of, next_label}
+use Rattle.arimaa_record.specs.declared.label.Label.{Label}
 use Rattle.arimaa_record.specs.declared.line.RecordLine.{RecordLine}
 use Rattle.arimaa_record.specs.declared.line.RecordLine.TheVariants as line
 use Rattle.arimaa_judge.specs.RecordState.{RecordState, after_line, before_lines, is_playing, with_turn}
@@ -53,6 +54,15 @@ pub record MatchState : Type 0 where
   pub lines : List RecordLine
   pub log : List Booked
   pub used : ℕ
+
+-- the labels of turn lines, the last first, and that of one line more, if it is one
+abbrev pub labels_with : List Label → RecordLine → List Label
+labels_with labels (line.Turn number side noted) = label_of number side ∷ labels
+labels_with labels _ = labels
+
+-- the labels of the turn lines of a record in which none is taken back, the last first
+abbrev pub turn_labels : List RecordLine → List Label
+turn_labels lines = fold labels_with [] lines
 
 -- before the first setup
 abbrev pub before_match : Control → MatchState
@@ -179,7 +189,7 @@ with_line s l = record s { game = after_line s.game l; lines = s.lines ++ l ∷ 
 -- the line of a turn is added to the record of a game that has the turn's position already
 abbrev pub turn_written : MatchState → List NotedStep → MatchState
 turn_written s noted = record s {
-  game = record s.game { turns = s.game.turns + 1; due = next_label s.game.due };
+  game = record s.game { labels = s.game.due ∷ s.game.labels; due = next_label s.game.due };
   lines = s.lines ++ line_of s (Moves noted) ∷ [];
 }
 
@@ -191,7 +201,9 @@ is_over_limit (limit.Turns most) used turns = nat_le most turns
 
 -- the limit of the game is reached, or that of every match: 100,000 turns
 abbrev pub is_over : MatchState → Bool
-is_over s = is_over_limit s.control.game s.used s.game.turns || nat_le 100000 s.game.turns
+is_over s =
+    is_over_limit s.control.game s.used (length s.game.labels)
+    || nat_le 100000 (length s.game.labels)
 
 -- what is ruled on an answer, and the state of the match after it
 pub record Ruling : Type 0 where

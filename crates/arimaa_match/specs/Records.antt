@@ -1,5 +1,5 @@
 -- What the judge says of the record of a match.
-use Rattle.std.specs.Prelude.{◌≡◌, List, [], ◌∷◌, Option, None, Some, Ok, fold}
+use Rattle.std.specs.Prelude.{◌≡◌, List, [], ◌∷◌, Option, None, Some, Ok, fold, length}
 use Rattle.std.specs.List.{AllByRecursion}
 use Rattle.arimaa_board.specs.declared.ending.Cause.TheVariants.{Resign, Time}
 use Rattle.arimaa_board.specs.declared.ending.Ending.{Ending}
@@ -30,7 +30,7 @@ state_after lines = fold after_line before_lines lines
 
 -- lawful, with the positions and the number of the turns of these lines, ended as the match has
 abbrev pub lawful_with : RecordState → Option Ending → Judged
-lawful_with s ending = Lawful s.history s.turns ending s.due
+lawful_with s ending = Lawful s.history (length s.labels) ending s.due
 
 -- none of these lines breaks a rule where a record stands so, and after them it stands so
 abbrev pub AreAccepted : RecordState → List RecordLine → RecordState → Type 0

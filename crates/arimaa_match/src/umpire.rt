@@ -40,8 +40,8 @@ pub struct Umpire {
 }
 
 impl Model for Umpire {
-    ghost use Rattle.std.specs.Prelude.{◌≤◌, false, None, length};
-    ghost use Rattle.arimaa_match.specs.MatchState.{MatchState};
+    ghost use Rattle.std.specs.Prelude.{◌≡◌, ◌≤◌, false, None, length};
+    ghost use Rattle.arimaa_match.specs.MatchState.{MatchState, turn_labels};
     ghost use Rattle.arimaa_match.specs.Phases.{IsKept, gold_of, history_of};
 
     ghost Value = { MatchState };
@@ -53,7 +53,7 @@ impl Model for Umpire {
       game = record {
         gold = gold_of u.phase;
         history = history_of u.phase;
-        turns = u.turns;
+        labels = turn_labels u.written;
         due = u.due;
         closed = false;
         word = None;
@@ -63,8 +63,9 @@ impl Model for Umpire {
       used = u.used;
     } };
 
-    // Each turn has its line.
-    ghost invariant = { λ u. IsKept u.phase u.due.side × (u.turns ≤ length u.written) };
+    // Each turn has its line, and no other line is one.
+    ghost invariant = { λ u. IsKept u.phase u.due.side × (u.turns ≤ length u.written)
+      × (u.turns ≡ length (turn_labels u.written)) };
 }
 
 // Whether a text is one of the two by which a side resigns.
@@ -133,6 +134,7 @@ impl Umpire {
     }
 
     /// Ends the record with the label that is due alone.
+    #[tactic(auto, using(crate::proofs::TurnLabels::labels_bare))]
     pub fn break_off(&mut self) -> Result<(), AllocError>
         ensures { OnOk result (self.new ≡ broken_off self.old) }
     {
@@ -175,6 +177,7 @@ impl Umpire {
     }
 
     // The side that is due loses by a word.
+    #[tactic(auto, using(crate::proofs::TurnLabels::labels_closing))]
     fn lose(&mut self, word: Word, cause: MatchCause) -> Result<Verdict, AllocError>
         ensures { HasRuled (lost_by self.old (closed self.old word) cause) self.new result }
     {
@@ -277,6 +280,7 @@ impl Umpire {
     }
 
     // Adds the line of a setup, which brings the game to this phase.
+    #[tactic(auto, using(crate::proofs::TurnLabels::labels_setup))]
     fn write_setup(&mut self, phase: Phase, setup: &Setup) -> Result<(), AllocError>
         requires { IsPlaced self.old.game setup.now phase }
         ensures { OnOk result (self.new ≡ with_line self.old (line_of self.old
@@ -310,6 +314,7 @@ impl Umpire {
     }
 
     // Adds the line of a turn that the game has made already.
+    #[tactic(auto, using(crate::proofs::TurnLabels::labels_turn))]
     fn write_turn(&mut self, marked: &Noted) -> Result<(), AllocError>
         requires { is_playing self.old.game ≡ true }
         ensures { OnOk result (self.new ≡ turn_written self.old marked.now) }
