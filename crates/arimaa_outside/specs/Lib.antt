@@ -9,4 +9,5 @@ pub mod MemSource
 pub mod MemSpawner
 pub mod OpenAnswers
 pub mod Status
+pub mod StdPort
 pub mod Told

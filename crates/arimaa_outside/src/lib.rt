@@ -25,6 +25,7 @@ mod sink;
 mod source;
 mod spawner;
 mod status;
+mod std_port;
 mod std_sink;
 mod std_source;
 #[cfg(test)]
@@ -49,5 +50,6 @@ pub use sink::{Sink, write_all};
 pub use source::{INPUT_LIMIT, ReadAll, Source, read_all};
 pub use spawner::Spawner;
 pub use status::Status;
+pub use std_port::StdPort;
 pub use std_sink::StdSink;
 pub use std_source::StdSource;

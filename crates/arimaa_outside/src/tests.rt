@@ -161,6 +161,37 @@ fn a_real_output(rt: HostRuntime) -> Result<(), Fail> {
     Ok(())
 }
 
+// Lines with each end, a line as long as one may be, one that is longer, and the last without an end.
+#[test]
+fn a_real_port(rt: HostRuntime) -> Result<(), Fail> {
+    let alloc = rt.alloc();
+    let mut said = Vec::from_slice(alloc, b"aei\r\n\nisready\n")?;
+    said.extend_from_slice(&vec![in alloc; b'x'; LINE_LIMIT]?)?;
+    said.extend_from_slice(b"\r\nquit\r")?;
+    let mut out = Vec::new(alloc);
+    let mut line = Vec::new(alloc);
+    let mut port = StdPort::new(said.as_slice(), &mut out);
+    for heard in [b"aei".as_slice(), b"".as_slice(), b"isready".as_slice()] {
+        assert_eq!(rt; port.receive(&mut line), Ok(Heard::Line));
+        assert_eq!(rt; line.as_slice(), heard);
+    }
+    port.send(b"readyok")?;
+    assert_eq!(rt; port.receive(&mut line), Ok(Heard::Line));
+    assert_eq!(rt; line.len(), LINE_LIMIT);
+    assert_eq!(rt; port.receive(&mut line), Ok(Heard::Line));
+    assert_eq!(rt; line.as_slice(), b"quit\r".as_slice());
+    assert_eq!(rt; port.receive(&mut line), Ok(Heard::Ended));
+    port.send(b"log end")?;
+    assert_eq!(rt; out.as_slice(), b"readyok\nlog end\n".as_slice());
+    let too_long = vec![in alloc; b'x'; LINE_LIMIT + 1]?;
+    let mut port = StdPort::new(too_long.as_slice(), Full);
+    assert_eq!(rt; port.receive(&mut line), Ok(Heard::Long));
+    assert_eq!(rt; port.send(b"no"), Err(PortFault::Failed));
+    let mut port = StdPort::new(Broken(1), Full);
+    assert_eq!(rt; port.receive(&mut line), Err(PortFault::Failed));
+    Ok(())
+}
+
 #[test]
 fn words_and_a_status(rt: HostRuntime) -> Result<(), Fail> {
     let mut words = CommandWords::new(rt.alloc());
