@@ -1,0 +1,11 @@
+pub mod OptionForms
+pub mod Passing
+pub mod Midst
+pub mod Whole
+pub mod FitBoards
+pub mod Moves
+pub mod PlainTurns
+pub mod Entries
+pub mod Causes
+pub mod Dealing
+pub mod Verdicts
