@@ -192,12 +192,7 @@ fn read_control(words: &CommandWords) -> Option<TextWord<'_>>
     if !is_named(words, "control", 2) {
         return None;
     }
-    let word = words.get(1)?;
-    if is_text(word.as_bytes()) {
-        Some(TextWord { word })
-    } else {
-        None
-    }
+    text_word(words.get(1)?)
 }
 
 /// The command that the words are in the form of. None exactly where they are in no command's form.
