@@ -1,15 +1,13 @@
 -- Meets that came to the same.
-use Rattle.std.proofs.Common.{◌≡◌, ℕ, ◌+◌, ◌<◌, zero, suc, List, [], ◌∷◌, length, map, Option, Some, refl, sym, ◌∙◌, ap, subst, arith}
+use Rattle.std.proofs.Common.{◌≡◌, suc, List, [], ◌∷◌, map, Option, Some, refl, sym, ◌∙◌, ap, subst, arith}
 use Rattle.arimaa_judge.specs.Agreement.{JudgementsAgree}
 use Rattle.arimaa_judge.specs.Judged.{IsJudged}
-use Rattle.arimaa_judge.specs.declared.judging.Judged.{Judged}
 use Rattle.arimaa_record.specs.Written.{text_of_record}
 use Rattle.arimaa_match.specs.declared.ending.MatchDone.{MatchDone}
 use Rattle.arimaa_match.specs.Laws.{ToldOnce}
 use Rattle.arimaa_match.specs.Parts.{Coming, Ran, joined}
 use Rattle.arimaa_match.specs.Programs.{match_of_programs}
 use Rattle.arimaa_meet.specs.Agreement.{AreJudged, MatchesAgree, ReportsAgree}
-use Rattle.arimaa_meet.specs.declared.pairs.Pair.{Pair}
 use Rattle.arimaa_meet.specs.Matches.{MeetMatch}
 use Rattle.arimaa_meet.specs.Report.{text_of_report}
 

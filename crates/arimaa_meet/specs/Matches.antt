@@ -1,5 +1,5 @@
 -- The matches of a meet.
-use Rattle.std.specs.Prelude.{List, Result, Ok}
+use Rattle.std.specs.Prelude.{Result, Ok}
 use Rattle.std.specs.declared.alloc.AllocError.{AllocError}
 use Rattle.arimaa_record.specs.Written.{text_of_record}
 use Rattle.arimaa_judge.specs.declared.judging.Judged.{Judged}

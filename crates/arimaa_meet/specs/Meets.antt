@@ -12,13 +12,13 @@ use Rattle.arimaa_meet.specs.Seats.{Seat}
 use Rattle.arimaa_meet.specs.Shares.{PlayDealt}
 use Rattle.arimaa_meet.specs.Writing.{EndsWith}
 
-module _ {S K L : Type 0} (sent : L → Option (List (List ℕ))) (answers : L → Option (List PortAnswer))
-    (counts : L → Counts) (seat : S → K → Seat L) (asked : Asked)
+module _ {S K L : Type 0} (sent : L → Option (List (List ℕ)))
+    (answers : L → Option (List PortAnswer)) (counts : L → Counts) (seat : S → K → Seat L) (asked : Asked)
     (spawners later_spawners : List S) (clocks later_clocks : List K) where
   -- a meet was played, and this is its report
   pub record IsReport (text : List ℕ) : Type 0 where
-    -- the matches, in order: what came of those of each worker is what the fold over the answers and
-    -- the moments of its own spawner and clock gives
+    -- the matches, in order: what came of those of each worker is what the fold over the answers
+    -- and the moments of its own spawner and clock gives
     pub matches : List MeetMatch
     pub plays : PlayDealt sent answers counts seat asked.control spawners later_spawners clocks
         later_clocks matches

@@ -25,8 +25,8 @@ seat_of waiting back answers counts given s k = record {
 
 module _ {L : Type 0} (sent : L → Option (List (List ℕ))) (answers : L → Option (List PortAnswer))
     (counts : L → Counts) (control : Control) where
-  -- a match was played over a spawner and a clock: what came of it is what the fold over the answers
-  -- and the moments gives, and an engine's fault has its cause in what the spawner counted
+  -- a match was played over a spawner and a clock: what came of it is what the fold over the
+  -- answers and the moments gives, and an engine's fault has its cause in what the spawner counted
   pub record PlaysMatch (old new : Seat L) (outcome : Result MatchDone AllocError) : Type 0 where
     pub went : ProgramsWent sent answers counts control old.spawned new.spawned old.given new.given
         outcome

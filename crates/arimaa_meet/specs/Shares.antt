@@ -1,5 +1,5 @@
--- The matches that were played, what is told of them, and whose spawners and clocks they were played
--- over.
+-- The matches that were played, what is told of them, and over whose spawners and clocks they were
+-- played.
 use Rattle.std.specs.Prelude.{◌≡◌, ◌<◌, ◌+◌, ◌%◌, ◌==◌, ℕ, List, [], ◌∷◌, Option, if◌then◌else◌, length, map, slice_index_or}
 use Rattle.std.specs.List.{AllZip}
 use Rattle.arimaa_outside.specs.Counts.{Counts}

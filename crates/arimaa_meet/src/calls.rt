@@ -58,10 +58,10 @@ fn write<O: Sink>(output: &mut O, status: Status, text: &[u8]) -> Status
 ///
 /// The words are a time control and 2 to 8 programs, none of them empty or with a dash in front.
 /// Each program plays each other one, by the number of the one that plays Gold and then by that of
-/// the other. A program that cannot be started costs its own side alone, as every engine fault does.
-/// The report has a line `match` with its number and those of its programs for each match, then what
-/// `play` writes for it, and at the end a line for each program with its wins, its losses, its
-/// matches that reached the limit of the game and its engine's faults.
+/// the other. A program that cannot be started costs its own side alone, as every engine fault
+/// does. The report has for each match a line `match` with its number and those of its programs,
+/// then what `play` writes for it, and at the end a line for each program with its wins, its
+/// losses, its matches that reached the limit of the game and its engine's faults.
 ///
 /// Match k, from 0, is played over the spawner and the clock of the worker of number k modulo that
 /// of the workers, of which there are as many as spawners. The status is 0 where the report is

@@ -13,8 +13,8 @@ pub fn matches_agree()
     told_once();
 }
 
-/// Meets of the same programs whose matches came to the same have the same report, for any number of
-/// workers.
+/// Meets of the same programs whose matches came to the same have the same report, for any number
+/// of workers.
 pub fn reports_agree()
     ensures { ReportsAgree }
 {

@@ -1,4 +1,4 @@
-use Rattle.std.proofs.Common.{◌≡◌, ◌≤◌, ◌∙◌, List, length, sym, ap, subst, arith}
+use Rattle.std.proofs.Common.{◌∙◌, List, length, sym, ap, subst, arith}
 use Rattle.std.specs.List.{AllZip}
 use Rattle.arimaa_meet.specs.declared.told.Told.{Told}
 use Rattle.arimaa_meet.specs.Shares.{IsTold}

@@ -1,7 +1,5 @@
-use Rattle.std.proofs.Common.{◌≡◌, ℕ, List, take, drop, length, ◌++◌, sym, ap, subst, arith, rules}
+use Rattle.std.proofs.Common.{◌≡◌, ℕ, List, length, subst, rules}
 use Rattle.arimaa_outside.specs.declared.status.Status.TheVariants.{Done}
-use Rattle.arimaa_meet.specs.Meets.{MeetPlayed}
-use Rattle.arimaa_meet.specs.Seats.{seat_of}
 use Rattle.arimaa_meet.specs.Writing.{EndsWith}
 use Rattle.arimaa_meet.proofs.WordForms.{among, ended_done, never_memory, one_asked, refilled}
 use Rattle.arimaa_meet.proofs.calls.run_meet.Goals as goal

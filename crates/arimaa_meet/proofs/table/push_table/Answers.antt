@@ -1,4 +1,4 @@
-use Rattle.std.proofs.Common.{◌≡◌, ◌+◌, ◌++◌, List, ℕ, sym, ◌∙◌, ap, append_assoc}
+use Rattle.std.proofs.Common.{◌+◌, ◌++◌, List, ℕ, sym, ◌∙◌, ap, append_assoc}
 use Rattle.arimaa_meet.specs.declared.table.Score.{Score}
 use Rattle.arimaa_meet.specs.Report.{text_of_score, text_of_table}
 use Rattle.arimaa_meet.proofs.PairSteps.{table_more}

@@ -1,4 +1,4 @@
-use Rattle.std.proofs.Common.{◌≡◌, ◌∙◌, ◌-◌, drop, sym, ap, subst, arith}
+use Rattle.std.proofs.Common.{◌∙◌, ◌-◌, drop, sym, ap, subst, arith}
 use Rattle.arimaa_time.specs.Fields.{IsControl}
 use Rattle.arimaa_meet.proofs.WordForms.{first_word, later_count, later_programs}
 use Rattle.arimaa_meet.proofs.words.read_meet.Goals as goal
