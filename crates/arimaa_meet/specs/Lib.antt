@@ -1,0 +1,10 @@
+pub mod Pairs
+pub mod Words
+pub mod Matches
+pub mod Scores
+pub mod Report
+pub mod Seats
+pub mod Shares
+pub mod Writing
+pub mod Meets
+pub mod Agreement

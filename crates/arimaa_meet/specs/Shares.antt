@@ -1,0 +1,60 @@
+-- The matches that were played, what is told of them, and over whose spawners and clocks they were
+-- played.
+use Rattle.std.specs.Prelude.{◌≡◌, ◌<◌, ◌+◌, ◌%◌, ◌==◌, ℕ, List, [], ◌∷◌, Option, if◌then◌else◌, length, map, slice_index_or}
+use Rattle.std.specs.List.{AllZip}
+use Rattle.arimaa_outside.specs.Counts.{Counts}
+use Rattle.arimaa_outside.specs.declared.port_answer.PortAnswer.{PortAnswer}
+use Rattle.arimaa_time.specs.declared.control.Control.{Control}
+use Rattle.arimaa_match.specs.Texts.{text_of_match}
+use Rattle.arimaa_meet.specs.declared.pairs.Pair.{Pair}
+use Rattle.arimaa_meet.specs.declared.told.Told.{Told}
+use Rattle.arimaa_meet.specs.Matches.{IsJudgedMatch, MeetMatch, outcome_of}
+use Rattle.arimaa_meet.specs.Scores.{counted}
+use Rattle.arimaa_meet.specs.Seats.{PlaysMatch, PlaysMatches, Seat}
+
+-- this is told of a match: its text and what it counts, and the judge says so of its record
+pub record IsTold (m : MeetMatch) (told : Told) : Type 0 where
+  pub text : told.text.items ≡ text_of_match m.done
+  pub counted_so : told.counted ≡ counted m
+  pub judged : IsJudgedMatch m
+
+-- the matches that are dealt to one of so many workers, where the first of these has this number:
+-- those whose number, modulo that of the workers, is its own
+abbrev pub dealt_from : ℕ → ℕ → ℕ → List MeetMatch → List MeetMatch
+dealt_from number worker workers [] = []
+dealt_from number worker workers (m ∷ later) =
+    if number % workers == worker
+    then m ∷ dealt_from (number + 1) worker workers later
+    else dealt_from (number + 1) worker workers later
+
+-- the matches of one of so many workers, where they are counted from 0
+abbrev pub dealt_to : ℕ → ℕ → List MeetMatch → List MeetMatch
+dealt_to worker workers matches = dealt_from 0 worker workers matches
+
+module _ {L : Type 0} (sent : L → Option (List (List ℕ))) (answers : L → Option (List PortAnswer))
+    (counts : L → Counts) where
+  -- a match of these programs was played, and this is told of it
+  pub record HasPlayedPair (control : Control) (pair : Pair) (old new : Seat L) (told : Told)
+      : Type 0 where
+    pub the_match : MeetMatch
+    pub programs : the_match.pair ≡ pair
+    pub plays : PlaysMatch sent answers counts control old new (outcome_of the_match)
+    pub telling : IsTold the_match told
+
+  module _ {S K : Type 0} (seat : S → K → Seat L) where
+    -- each worker played the matches that are dealt to it, over its own spawner and clock
+    abbrev pub PlayDealt : Control → List S → List S → List K → List K → List MeetMatch → Type 0
+    PlayDealt control spawners later_spawners clocks later_clocks matches =
+        (w : ℕ) (s : S) (k : K) → w < length spawners
+        → PlaysMatches sent answers counts control
+        (seat (slice_index_or spawners w s) (slice_index_or clocks w k))
+        (seat (slice_index_or later_spawners w s) (slice_index_or later_clocks w k))
+        (map outcome_of (dealt_to w (length spawners) matches))
+
+    -- matches of these programs were played so, and this is told of them
+    pub record HavePlayed (control : Control) (pairs : List Pair) (spawners later_spawners : List S)
+        (clocks later_clocks : List K) (told : List Told) : Type 0 where
+      pub matches : List MeetMatch
+      pub programs : map (λ m. m.pair) matches ≡ pairs
+      pub telling : AllZip IsTold matches told
+      pub plays : PlayDealt control spawners later_spawners clocks later_clocks matches

@@ -1,0 +1,97 @@
+//! The run of a meet.
+ghost use Rattle.std.specs.Prelude.{◌≡◌, ◌≢◌, ◌<◌, ◌≤◌, IfOk, codes, length, vec_len};
+ghost use Rattle.arimaa_judge.specs.Texts.{line};
+ghost use Rattle.arimaa_outside.specs.Faults.{HasRisen};
+ghost use Rattle.arimaa_outside.specs.declared.status.Status.TheVariants as outcome;
+ghost use Rattle.arimaa_meet.specs.declared.words.TheConstants.{MOST_PROGRAMS};
+ghost use Rattle.arimaa_meet.specs.declared.words.Asked.{Asked as Wish};
+ghost use Rattle.arimaa_meet.specs.Meets.{IsReport, MeetPlayed};
+ghost use Rattle.arimaa_meet.specs.Seats.{seat_of};
+ghost use Rattle.arimaa_meet.specs.Words.{AsksForMeet, AsksForNoMeet};
+ghost use Rattle.arimaa_meet.specs.Writing.{EndsWith, Outputs};
+
+use crate::meet::{Meet, play_all};
+use crate::pairs::all_pairs;
+use crate::report::report;
+use crate::words::{Asked, read_meet};
+use arimaa_outside::{Clock, CommandWords, Sink, Spawner, Status, write_all};
+use std::alloc::{AllocError, Global};
+
+// Plays a meet, and gives its report.
+fn play_meet<S: Spawner, K: Clock>(
+    alloc: Global,
+    words: &CommandWords,
+    asked: &Asked,
+    spawners: &mut [S],
+    clocks: &mut [K],
+) -> Result<Vec<u8>, AllocError>
+    requires programs { asked.now.programs ≤ MOST_PROGRAMS }
+    requires some { 0 < length spawners.old }
+    requires clocks { length clocks.old ≡ length spawners.old }
+    ensures { IfOk result (λ text. IsReport S.Link.sent S.Link.answers S.Link.counts
+        (seat_of S.waiting S.back S.answers S.counts K.given) asked.now
+        spawners.old spawners.new clocks.old clocks.new text.items) }
+{
+    let meet = Meet {
+        words,
+        control: asked.control,
+        pairs: all_pairs(alloc, asked.programs)?,
+    };
+    let told = play_all(alloc, &meet, &mut *spawners, &mut *clocks)?;
+    let text = report(alloc, asked.programs, &told)?;
+    Ok(text)
+}
+
+// Writes a text, and ends with a status, or with that of a write that failed.
+fn write<O: Sink>(output: &mut O, status: Status, text: &[u8]) -> Status
+    ensures ends { EndsWith result (O.contents output.old) (O.contents output.new) status text.now }
+    ensures fault { result ≢ status → HasRisen (O.faults output.old) (O.faults output.new) }
+    ensures unfailed { result ≢ outcome.WriteFault → O.faults output.new ≡ O.faults output.old }
+{
+    match write_all(output, text) {
+        Ok(()) => status,
+        Err(_) => Status::WriteFault,
+    }
+}
+
+/// Plays a meet of the programs that the words name, and writes its report; ends with the status.
+///
+/// The words are a time control and 2 to 8 programs, none of them empty or with a dash in front.
+/// Each program plays each other one, by the number of the one that plays Gold and then by that of
+/// the other. A program that cannot be started costs its own side alone, as every engine fault
+/// does. The report has for each match a line `match` with its number and those of its programs,
+/// then what `play` writes for it, and at the end a line for each program with its wins, its
+/// losses, its matches that reached the limit of the game and its engine's faults.
+///
+/// Match k, from 0, is played over the spawner and the clock of the worker of number k modulo that
+/// of the workers, of which there are as many as spawners. The status is 0 where the report is
+/// written, engine faults included. It waits for the engines, so it need not return.
+pub fn run_meet<O: Sink, S: Spawner, K: Clock>(
+    alloc: Global,
+    words: &CommandWords,
+    output: &mut O,
+    spawners: &mut Vec<S>,
+    clocks: &mut Vec<K>,
+) -> Status
+    requires some { 0 < vec_len spawners.old }
+    requires clocks { vec_len clocks.old ≡ vec_len spawners.old }
+    ensures played { (asked : Wish) → AsksForMeet words.now asked
+        → MeetPlayed S.Link.sent S.Link.answers S.Link.counts
+        (seat_of S.waiting S.back S.answers S.counts K.given) asked
+        spawners.old.items spawners.new.items clocks.old.items clocks.new.items
+        result (O.contents output.old) (O.contents output.new) }
+    ensures bad_words { AsksForNoMeet words.now → EndsWith result (O.contents output.old)
+        (O.contents output.new) outcome.Words (line (codes "bad words")) }
+    ensures spawners { AsksForNoMeet words.now → spawners.new ≡ spawners.old }
+    ensures clocks { AsksForNoMeet words.now → clocks.new ≡ clocks.old }
+    ensures output { Outputs result (O.contents output.old) (O.contents output.new)
+        (O.faults output.old) (O.faults output.new) }
+{
+    match read_meet(words) {
+        None => write(output, Status::Words, b"bad words\n"),
+        Some(asked) => match play_meet(alloc, words, &asked, spawners, clocks) {
+            Err(_) => Status::Memory,
+            Ok(text) => write(output, Status::Done, &text),
+        },
+    }
+}

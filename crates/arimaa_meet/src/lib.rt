@@ -1,0 +1,18 @@
+//! Meets: each of some programs plays each other one, and one report stands in the order of the
+//! matches, with a table at its end.
+#![tactic(auto)]
+
+mod calls;
+mod counted;
+mod laws;
+mod meet;
+mod pairs;
+mod report;
+mod table;
+mod told;
+mod words;
+
+pub use calls::run_meet;
+pub use laws::{matches_agree, reports_agree};
+pub use pairs::{MOST_PAIRS, Pair};
+pub use words::{Asked, FEWEST_PROGRAMS, MOST_PROGRAMS};

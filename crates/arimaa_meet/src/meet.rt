@@ -1,0 +1,81 @@
+//! The matches of a meet.
+ghost use Rattle.std.specs.Prelude.{◌≡◌, ◌<◌, ◌≤◌, IfOk, length, vec_len};
+ghost use Rattle.arimaa_meet.specs.Seats.{seat_of};
+ghost use Rattle.arimaa_meet.specs.Shares.{HasPlayedPair, HavePlayed};
+ghost use Rattle.arimaa_meet.specs.declared.pairs.TheConstants.{MOST_PAIRS as MOST};
+
+use crate::counted::Counted;
+use crate::pairs::Pair;
+use crate::told::Told;
+use arimaa_match::{match_text, play_programs};
+use arimaa_outside::{Clock, CommandWords, Spawner};
+use arimaa_time::Control;
+use std::alloc::{AllocError, Global};
+
+/// A meet, as its workers see it.
+#[derive(Drop)]
+pub(crate) struct Meet<'a> {
+    /// The words that ask for it, with the programs in the places of their numbers.
+    pub(crate) words: &'a CommandWords,
+    /// The time control of each match.
+    pub(crate) control: Control,
+    /// The matches, in order.
+    pub(crate) pairs: Vec<Pair>,
+}
+
+// The program of this number.
+fn program(words: &CommandWords, number: usize) -> &str {
+    words.get(number).unwrap_or("")
+}
+
+// Plays a match.
+fn play_pair<S: Spawner, K: Clock>(
+    alloc: Global,
+    meet: &Meet,
+    pair: Pair,
+    spawner: &mut S,
+    clock: &mut K,
+) -> Result<Told, AllocError>
+    ensures { IfOk result
+        (HasPlayedPair S.Link.sent S.Link.answers S.Link.counts meet.now.control pair
+        (seat_of S.waiting S.back S.answers S.counts K.given spawner.old clock.old)
+        (seat_of S.waiting S.back S.answers S.counts K.given spawner.new clock.new)) }
+{
+    let gold = program(meet.words, pair.gold);
+    let silver = program(meet.words, pair.silver);
+    match play_programs(alloc, spawner, gold, silver, &meet.control, clock) {
+        Err(e) => Err(e),
+        Ok(done) => match match_text(alloc, &done) {
+            Err(e) => Err(e),
+            Ok(text) => Ok(Told {
+                text,
+                counted: Counted::of(pair, &done.ending),
+            }),
+        },
+    }
+}
+
+/// Plays the matches in order. Match k, from 0, is played over the spawner and the clock of the
+/// worker of number k modulo that of the workers.
+pub(crate) fn play_all<S: Spawner, K: Clock>(
+    alloc: Global,
+    meet: &Meet,
+    spawners: &mut [S],
+    clocks: &mut [K],
+) -> Result<Vec<Told>, AllocError>
+    requires some { 0 < length spawners.old }
+    requires clocks { length clocks.old ≡ length spawners.old }
+    requires few { vec_len meet.now.pairs ≤ MOST }
+    ensures { IfOk result (λ told. HavePlayed S.Link.sent S.Link.answers S.Link.counts
+        (seat_of S.waiting S.back S.answers S.counts K.given) meet.now.control
+        meet.now.pairs.items spawners.old spawners.new clocks.old clocks.new told.items) }
+{
+    let mut told = Vec::new(alloc);
+    'matches: for place in 0..meet.pairs.len() {
+        let worker = place % spawners.len();
+        let spawner = &mut spawners[worker];
+        let clock = &mut clocks[worker];
+        told.push(play_pair(alloc, meet, meet.pairs[place], spawner, clock)?)?;
+    }
+    Ok(told)
+}

@@ -1,0 +1,210 @@
+//! Meets over spawners and clocks in memory, and words that ask for none.
+ghost use Rattle.std.specs.Prelude.{IfOk};
+ghost use Rattle.arimaa_outside.specs.MemSpawner.{IsFresh};
+
+use arimaa_meet::run_meet;
+use arimaa_outside::{Bytes, CommandWords, MemClock, MemPort, MemSink, MemSpawner, Said, Status};
+use std::alloc::{AllocError, Global};
+use std::process::Abort;
+use std::test::Fail;
+
+// What two engines say in two matches: in the first one Silver's last answer is unlawful, in the
+// other its script ends in place of it.
+const GOLD: [&str; 6] = [
+    "protocol-version 1",
+    "id name x",
+    "aeiok",
+    "readyok",
+    "bestmove Ra1 Rb1 Rc1 Dd1 De1 Rf1 Rg1 Rh1 Ra2 Hb2 Cc2 Md2 Ee2 Cf2 Hg2 Rh2",
+    "bestmove Cc2n",
+];
+
+const SILVER: [&str; 6] = [
+    "protocol-version 1",
+    "id name x",
+    "aeiok",
+    "readyok",
+    "bestmove ra7 hb7 cc7 ed7 me7 cf7 hg7 rh7 ra8 rb8 rc8 dd8 de8 rf8 rg8 rh8",
+    "bestmove ed7n",
+];
+
+const REPORT: &str = "match 1 1 2\n\
+    1g Ra1 Rb1 Rc1 Dd1 De1 Rf1 Rg1 Rh1 Ra2 Hb2 Cc2 Md2 Ee2 Cf2 Hg2 Rh2\n\
+    1s ra7 hb7 cc7 ed7 me7 cf7 hg7 rh7 ra8 rb8 rc8 dd8 de8 rf8 rg8 rh8\n\
+    2g Cc2n Cc3x\n\
+    2s\n\
+    # winner gold illegal\n\
+    match 2 2 1\n\
+    1g Ra1 Rb1 Rc1 Dd1 De1 Rf1 Rg1 Rh1 Ra2 Hb2 Cc2 Md2 Ee2 Cf2 Hg2 Rh2\n\
+    1s ra7 hb7 cc7 ed7 me7 cf7 hg7 rh7 ra8 rb8 rc8 dd8 de8 rf8 rg8 rh8\n\
+    2g Cc2n Cc3x\n\
+    2s\n\
+    # engine silver ended\n\
+    program 1 wins 1 losses 0 limits 0 faults 1\n\
+    program 2 wins 0 losses 1 limits 0 faults 0\n";
+
+const UNSTARTED: &str = "match 1 1 2\n\
+    # engine gold failed\n\
+    match 2 2 1\n\
+    # engine gold failed\n\
+    program 1 wins 0 losses 0 limits 0 faults 1\n\
+    program 2 wins 0 losses 0 limits 0 faults 1\n";
+
+// How a run ended, and what it wrote.
+#[derive(Drop)]
+struct Done {
+    status: Status,
+    output: Vec<u8>,
+}
+
+// A port whose engine says these lines.
+fn port(alloc: Global, lines: &[&str]) -> Result<MemPort, AllocError>
+    ensures { IfOk result IsFresh }
+{
+    let mut script = Vec::new(alloc);
+    for line in lines {
+        script.push(Said::Line(Bytes::new(Vec::from_slice(alloc, line.as_bytes())?)))?;
+    }
+    Ok(MemPort::new(alloc, script, Vec::new(alloc)))
+}
+
+// A spawner of the ports of the first match.
+fn first(alloc: Global) -> Result<MemSpawner, AllocError> {
+    let ports = Vec::from_array(alloc, [port(alloc, &GOLD)?, port(alloc, &SILVER)?])?;
+    MemSpawner::new(alloc, ports, Vec::new(alloc))
+}
+
+// A spawner of the ports of the second match.
+fn second(alloc: Global) -> Result<MemSpawner, AllocError> {
+    let ports = Vec::from_array(alloc, [port(alloc, &GOLD)?, port(alloc, &SILVER[..5])?])?;
+    MemSpawner::new(alloc, ports, Vec::new(alloc))
+}
+
+// A spawner of the ports of both matches, in order.
+fn both(alloc: Global) -> Result<MemSpawner, AllocError> {
+    let ports = Vec::from_array(
+        alloc,
+        [
+            port(alloc, &GOLD)?,
+            port(alloc, &SILVER)?,
+            port(alloc, &GOLD)?,
+            port(alloc, &SILVER[..5])?,
+        ],
+    )?;
+    MemSpawner::new(alloc, ports, Vec::new(alloc))
+}
+
+// A spawner without ports.
+fn none(alloc: Global) -> Result<MemSpawner, AllocError> {
+    MemSpawner::new(alloc, Vec::new(alloc), Vec::new(alloc))
+}
+
+// A clock whose moments are all 0.
+fn clock(alloc: Global) -> MemClock {
+    MemClock::new(Vec::new(alloc))
+}
+
+// The words of a command line.
+fn words_of(alloc: Global, words: &str) -> Result<CommandWords, AllocError> {
+    let mut list = CommandWords::new(alloc);
+    for word in words.split_whitespace() {
+        list.push(word)?;
+    }
+    Ok(list)
+}
+
+// Runs a meet with one worker, where this write fails; 0 for none.
+fn with_one(
+    alloc: Global,
+    words: &str,
+    spawner: MemSpawner,
+    failing: u64,
+) -> Result<Done, AllocError> {
+    let words = words_of(alloc, words)?;
+    let mut sink = MemSink::new(alloc, 16, vec![in alloc; failing]?);
+    let mut spawners = Vec::from_array(alloc, [spawner])?;
+    let mut clocks = Vec::from_array(alloc, [clock(alloc)])?;
+    let status = run_meet(alloc, &words, &mut sink, &mut spawners, &mut clocks);
+    let output = Vec::from_slice(alloc, sink.written())?;
+    Ok(Done { status, output })
+}
+
+// Runs a meet with two workers.
+fn with_two(alloc: Global, words: &str, spawners: [MemSpawner; 2]) -> Result<Done, AllocError> {
+    let words = words_of(alloc, words)?;
+    let mut sink = MemSink::new(alloc, 1 << 20, Vec::new(alloc));
+    let mut spawners = Vec::from_array(alloc, spawners)?;
+    let mut clocks = Vec::from_array(alloc, [clock(alloc), clock(alloc)])?;
+    let status = run_meet(alloc, &words, &mut sink, &mut spawners, &mut clocks);
+    let output = Vec::from_slice(alloc, sink.written())?;
+    Ok(Done { status, output })
+}
+
+// Whether a run ended so, and wrote this.
+fn check(rt: &impl Abort, done: &Done, status: Status, output: &str) {
+    assert_eq!(rt; done.status, status, "{output}");
+    assert_eq!(rt; done.output.as_slice(), output.as_bytes(), "{output}");
+}
+
+#[test]
+fn two_workers(rt: HostRuntime) -> Result<(), Fail> {
+    let alloc = rt.alloc();
+    let done = with_two(alloc, "1/5 a b", [first(alloc)?, second(alloc)?])?;
+    check(&rt, &done, Status::Done, REPORT);
+    Ok(())
+}
+
+#[test]
+fn one_worker(rt: HostRuntime) -> Result<(), Fail> {
+    let alloc = rt.alloc();
+    let done = with_one(alloc, "1/5 a b", both(alloc)?, 0)?;
+    check(&rt, &done, Status::Done, REPORT);
+    Ok(())
+}
+
+#[test]
+fn no_program_starts(rt: HostRuntime) -> Result<(), Fail> {
+    let alloc = rt.alloc();
+    let done = with_two(alloc, "1/5 a b", [none(alloc)?, none(alloc)?])?;
+    check(&rt, &done, Status::Done, UNSTARTED);
+    let done = with_one(alloc, "1/5 a b", none(alloc)?, 0)?;
+    check(&rt, &done, Status::Done, UNSTARTED);
+    Ok(())
+}
+
+// Words that ask for no meet: no time control, one program or nine, a dash, a control that is none.
+const REFUSED: [&str; 7] = [
+    "",
+    "1/5",
+    "1/5 a",
+    "1/5 a b c d e f g h i",
+    "1/5 a -b",
+    "1/x a b",
+    "a b",
+];
+
+#[test]
+fn refused_words(rt: HostRuntime) -> Result<(), Fail> {
+    let alloc = rt.alloc();
+    for words in REFUSED {
+        let done = with_one(alloc, words, both(alloc)?, 0)?;
+        check(&rt, &done, Status::Words, "bad words\n");
+    }
+    Ok(())
+}
+
+// Three writes of 16 bytes, the second or third of which fails.
+#[test]
+fn failing_writes(rt: HostRuntime) -> Result<(), Fail> {
+    let alloc = rt.alloc();
+    for (failing, written) in [(1, 0), (2, 16), (3, 32)] {
+        let done = with_one(alloc, "1/5 a b", none(alloc)?, failing)?;
+        assert_eq!(rt; done.status, Status::WriteFault, "{failing}");
+        assert_eq!(rt;
+            Some(done.output.as_slice()),
+            UNSTARTED.as_bytes().get(..written),
+            "{failing}"
+        );
+    }
+    Ok(())
+}
