@@ -2,7 +2,6 @@
 use Rattle.std.proofs.Common.{◌≡◌, ℕ, ◌+◌, ◌-◌, Bool, true, false, cond, ◌||◌, List, [], ◌∷◌, ◌++◌, length, take, BTreeMap, ◌⊎◌, inl, inr, refl, sym, ◌∙◌, ap, subst, arith, ⊎_elim, length-append, ne_eqb}
 use Rattle.std.specs.Prelude.{◌==◌}
 use Rattle.std.specs.HashSet.{HashSet, contains}
-
 use Rattle.std.proofs.Math.Seq.{take-append_seam}
 use Rattle.std.proofs.lemmas.Bool.{cases_Bool}
 use Rattle.std.proofs.lemmas.List.{append-nil}
@@ -80,7 +79,7 @@ module _ (h : List Position) (counts less : BTreeMap Key ℕ) (p : Position) (ba
       (cases_Bool (same_position q p))
 
 module _ (h barred : List Position) (counts less : BTreeMap Key ℕ) (p : Position) (key : Key) (is : key ≡ key_of p) (gives_back : position_at key ≡ p)
-  (kept : AreKept (h ++ p ∷ []) barred counts) (counted : IsCounted counts less key (count_of counts key - 1)) where
+    (kept : AreKept (h ++ p ∷ []) barred counts) (counted : IsCounted counts less key (count_of counts key - 1)) where
   back : position_at (key_of p) ≡ p
   back = sym (ap position_at is) ∙ gives_back
 

@@ -140,11 +140,7 @@ fn repeated_after(due: Label, repeated: u64, turns: u64) -> u64
         ≡ due ∷ labels_before (turns - 1) repeated due }
     ensures repeats { AreRepeats turns result (next_label due) }
 {
-    if due.is_last() {
-        repeated + 1
-    } else {
-        0
-    }
+    if due.is_last() { repeated + 1 } else { 0 }
 }
 
 // The label of the last turn that stands, where this one is due, and how many of the turn lines

@@ -65,7 +65,7 @@ impl Model for Umpire {
 
     // Each turn has its line, and no other line is one.
     ghost invariant = { λ u. IsKept u.phase u.due.side × (u.turns ≤ length u.written)
-      × (u.turns ≡ length (turn_labels u.written)) };
+        × (u.turns ≡ length (turn_labels u.written)) };
 }
 
 // Whether a text is one of the two by which a side resigns.

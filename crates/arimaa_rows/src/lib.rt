@@ -16,3 +16,5 @@ mod rows;
 mod runs;
 #[cfg(test)]
 mod strategies;
+#[cfg(test)]
+mod takebacks;
