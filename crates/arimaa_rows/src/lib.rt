@@ -19,4 +19,6 @@ mod runs;
 #[cfg(test)]
 mod strategies;
 #[cfg(test)]
+mod takebacks;
+#[cfg(test)]
 mod words;
