@@ -190,6 +190,7 @@ pub fn play_programs<S: Spawner, K: Clock>(
         (K.given clock.old) (K.given clock.new) result }
     ensures cause { IfOk result (λ done.
         HasSpawnerCause (S.counts spawner.old) (S.counts spawner.new) done.ending) }
+    ensures never_falls { NeverFall (S.counts spawner.old) (S.counts spawner.new) }
     ensures ended { IfOk result (λ done. HasEnded done.ending) }
 
     // The judge accepts each line of the record, which ends as the match has.
