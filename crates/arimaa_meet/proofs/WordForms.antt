@@ -8,7 +8,7 @@ use Rattle.arimaa_time.specs.Fields.{IsControl}
 use Rattle.arimaa_time.proofs.Controls.{read_laws}
 use Rattle.arimaa_meet.specs.declared.words.Asked.{Asked}
 use Rattle.arimaa_meet.specs.Words.{AreProgramsFrom, AsksForMeet}
-use Rattle.arimaa_meet.specs.Writing.{EndsWith}
+use Rattle.arimaa_outside.specs.Writing.{EndsWith}
 
 -- the first word, and then the others
 pub first_word : (words : List (List ℕ)) (text : List ℕ) → Some text ≡ slice_get words 0

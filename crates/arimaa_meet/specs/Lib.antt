@@ -5,6 +5,5 @@ pub mod Scores
 pub mod Report
 pub mod Seats
 pub mod Shares
-pub mod Writing
 pub mod Meets
 pub mod Agreement

@@ -10,7 +10,7 @@ use Rattle.arimaa_meet.specs.Pairs.{pairs_of}
 use Rattle.arimaa_meet.specs.Report.{text_of_report}
 use Rattle.arimaa_meet.specs.Seats.{Seat}
 use Rattle.arimaa_meet.specs.Shares.{PlayDealt}
-use Rattle.arimaa_meet.specs.Writing.{EndsWith}
+use Rattle.arimaa_outside.specs.Writing.{EndsWith}
 
 module _ {S K L : Type 0} (sent : L → Option (List (List ℕ)))
     (answers : L → Option (List PortAnswer)) (counts : L → Counts) (seat : S → K → Seat L) (asked : Asked)

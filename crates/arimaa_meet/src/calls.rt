@@ -1,20 +1,19 @@
 //! The run of a meet.
-ghost use Rattle.std.specs.Prelude.{◌≡◌, ◌≢◌, ◌<◌, ◌≤◌, IfOk, codes, length, vec_len};
+ghost use Rattle.std.specs.Prelude.{◌≡◌, ◌<◌, ◌≤◌, IfOk, codes, length, vec_len};
 ghost use Rattle.arimaa_judge.specs.Texts.{line};
-ghost use Rattle.arimaa_outside.specs.Faults.{HasRisen};
 ghost use Rattle.arimaa_outside.specs.declared.status.Status.TheVariants as outcome;
 ghost use Rattle.arimaa_meet.specs.declared.words.TheConstants.{MOST_PROGRAMS};
 ghost use Rattle.arimaa_meet.specs.declared.words.Asked.{Asked as Wish};
 ghost use Rattle.arimaa_meet.specs.Meets.{IsReport, MeetPlayed};
 ghost use Rattle.arimaa_meet.specs.Seats.{seat_of};
 ghost use Rattle.arimaa_meet.specs.Words.{AsksForMeet, AsksForNoMeet};
-ghost use Rattle.arimaa_meet.specs.Writing.{EndsWith, Outputs};
+ghost use Rattle.arimaa_outside.specs.Writing.{EndsWith, Outputs};
 
 use crate::meet::{Meet, play_all};
 use crate::pairs::all_pairs;
 use crate::report::report;
 use crate::words::{Asked, read_meet};
-use arimaa_outside::{Clock, CommandWords, Sink, Spawner, Status, write_all};
+use arimaa_outside::{Clock, CommandWords, Sink, Spawner, Status, write_answer};
 use std::alloc::{AllocError, Global};
 
 // Plays a meet, and gives its report.
@@ -40,18 +39,6 @@ fn play_meet<S: Spawner, K: Clock>(
     let told = play_all(alloc, &meet, &mut *spawners, &mut *clocks)?;
     let text = report(alloc, asked.programs, &told)?;
     Ok(text)
-}
-
-// Writes a text, and ends with a status, or with that of a write that failed.
-fn write<O: Sink>(output: &mut O, status: Status, text: &[u8]) -> Status
-    ensures ends { EndsWith result (O.contents output.old) (O.contents output.new) status text.now }
-    ensures fault { result ≢ status → HasRisen (O.faults output.old) (O.faults output.new) }
-    ensures unfailed { result ≢ outcome.WriteFault → O.faults output.new ≡ O.faults output.old }
-{
-    match write_all(output, text) {
-        Ok(()) => status,
-        Err(_) => Status::WriteFault,
-    }
 }
 
 /// Plays a meet of the programs that the words name, and writes its report; ends with the status.
@@ -88,10 +75,10 @@ pub fn run_meet<O: Sink, S: Spawner, K: Clock>(
         (O.faults output.old) (O.faults output.new) }
 {
     match read_meet(words) {
-        None => write(output, Status::Words, b"bad words\n"),
+        None => write_answer(output, Status::Words, b"bad words\n"),
         Some(asked) => match play_meet(alloc, words, &asked, spawners, clocks) {
             Err(_) => Status::Memory,
-            Ok(text) => write(output, Status::Done, &text),
+            Ok(text) => write_answer(output, Status::Done, &text),
         },
     }
 }
