@@ -1,5 +1,6 @@
 pub mod LinePlaces
 pub mod RecordPlaces
+pub mod GamePlaces
 pub mod Telling
 pub mod ShareLaws
 pub mod WordForms

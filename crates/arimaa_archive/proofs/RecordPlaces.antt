@@ -7,19 +7,8 @@ use Rattle.std.proofs.lemmas.List.{append-nil, drop_all, map-append}
 use Rattle.arimaa_record.specs.Lines.{is_feed, lines_of}
 use Rattle.arimaa_record.proofs.LineLaws.{no_lines}
 use Rattle.arimaa_archive.specs.declared.parts.Part.{Part}
-use Rattle.arimaa_archive.specs.Archive.{is_game_line, lines_before_game, lines_of_part, place_from, records_from, records_of}
+use Rattle.arimaa_archive.specs.Archive.{IsLineStart, is_game_line, lines_before_game, lines_of_part, place_from, records_from, records_of}
 use Rattle.arimaa_archive.proofs.LinePlaces.{line_alone, lines_front, lines_then}
-
--- a line begins at this place, and no line before it begins a record
-pub record IsLineStart (bytes : List ℕ) (at : ℕ) : Type 0 where
-  pub within : at ≤ length bytes
-  -- the lines before the first record are those up to here, and then those of what follows
-  pub before : lines_before_game (lines_of bytes)
-      ≡ lines_of (take at bytes) ++ lines_before_game (lines_of (drop at bytes))
-  pub records : records_of (lines_of bytes) ≡ records_of (lines_of (drop at bytes))
-  -- the lines of a longer front are those up to here, and then those of what follows
-  pub apart : (m : ℕ) → lines_of (take (at + m) bytes)
-      ≡ lines_of (take at bytes) ++ lines_of (take m (drop at bytes))
 
 -- the first byte begins a line
 pub first_line_start : (bytes : List ℕ) → IsLineStart bytes 0

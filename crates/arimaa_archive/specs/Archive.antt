@@ -1,5 +1,5 @@
 -- An archive: records, each after a line that says `game`.
-use Rattle.std.specs.Prelude.{◌≤◌, ℕ, ◌+◌, ◌==◌, Bool, false, not, List, [], ◌∷◌, Option, None, Some, codes, drop, slice_range, if◌then◌else◌}
+use Rattle.std.specs.Prelude.{◌≡◌, ◌≤◌, ℕ, ◌+◌, ◌==◌, Bool, false, not, List, [], ◌∷◌, ◌++◌, Option, None, Some, codes, drop, length, slice_range, take, if◌then◌else◌}
 use Rattle.std.specs.Str.{bytes_eq}
 use Rattle.arimaa_notation.specs.Items.{trimmed, word_of}
 use Rattle.arimaa_record.specs.Lines.{lines_of}
@@ -59,3 +59,14 @@ records_from bytes (Some place) =
 abbrev pub place_from : ℕ → Option ℕ → Option ℕ
 place_from start None = None
 place_from start (Some place) = Some (start + place)
+
+-- a line begins at this place, or all ends there, and no line before it begins a record
+pub record IsLineStart (bytes : List ℕ) (at : ℕ) : Type 0 where
+  pub within : at ≤ length bytes
+  -- the lines before the first record are those up to here, and then those of what follows
+  pub before : lines_before_game (lines_of bytes)
+      ≡ lines_of (take at bytes) ++ lines_before_game (lines_of (drop at bytes))
+  pub records : records_of (lines_of bytes) ≡ records_of (lines_of (drop at bytes))
+  -- the lines of a longer front are those up to here, and then those of what follows
+  pub apart : (m : ℕ) → lines_of (take (at + m) bytes)
+      ≡ lines_of (take at bytes) ++ lines_of (take m (drop at bytes))

@@ -3,11 +3,11 @@ ghost use Rattle.std.specs.Prelude.{◌≡◌, ◌<◌, ◌≤◌, ◌+◌, ◌^
 ghost use Rattle.std.specs.List.{position_or_len};
 ghost use Rattle.std.specs.Str.Lines.{strip_carriage_return};
 ghost use Rattle.arimaa_record.specs.Lines.{is_feed, lines_of};
-ghost use Rattle.arimaa_archive.specs.Archive.{IsWithin, first_content, has_content, is_game_line, lines_before_game, lines_of_part, place_from, records_from, records_of};
+ghost use Rattle.arimaa_archive.specs.Archive.{IsLineStart, IsWithin, first_content, has_content, is_game_line, lines_before_game, lines_of_part, place_from, records_from, records_of};
 
 use arimaa_notation::{first_item, trim};
 use arimaa_record::first_line;
-use memchr::memchr;
+use memchr::{memchr, memmem, memrchr};
 use std::alloc::{AllocError, Global};
 
 /// Where a record stands in the bytes of an archive.
@@ -87,6 +87,23 @@ pub(crate) fn first_content(bytes: &[u8]) -> Option<u64>
     None
 }
 
+// How many bytes stand before the first line that has `game` somewhere in it; all, where none has.
+// None of the lines in them begins a record.
+fn before_game_word(bytes: &[u8]) -> usize
+    ensures { IsLineStart bytes.now result }
+{
+    match memmem::find(bytes, b"game") {
+        None => bytes.len(),
+        Some(place) => {
+            let (front, _) = bytes.split_at(place);
+            match memrchr(b'\n', front) {
+                None => 0,
+                Some(feed) => feed + 1,
+            }
+        }
+    }
+}
+
 // Where the first line stands that begins a record.
 pub(crate) fn cut_at_game(bytes: &[u8]) -> Cut
     ensures within { result.before ≤ length bytes.now }
@@ -95,7 +112,7 @@ pub(crate) fn cut_at_game(bytes: &[u8]) -> Cut
     ensures place { IfSome result.after (λ place. (0 < place) × (place ≤ length bytes.now)) }
     ensures records { records_of (lines_of bytes.now) ≡ records_from bytes.now result.after }
 {
-    let mut at = 0;
+    let mut at = before_game_word(bytes);
     'lines: while at < bytes.len() {
         let (_, rest) = bytes.split_at(at);
         let size = line_len(rest);
@@ -107,7 +124,8 @@ pub(crate) fn cut_at_game(bytes: &[u8]) -> Cut
                 after: Some(next),
             };
         }
-        at = next;
+        let (_, later) = bytes.split_at(next);
+        at = next + before_game_word(later);
     }
     Cut {
         before: bytes.len(),

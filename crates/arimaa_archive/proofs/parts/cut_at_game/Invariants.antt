@@ -1,5 +1,5 @@
 use Rattle.std.proofs.Common.{◌-◌, length}
-use Rattle.arimaa_archive.proofs.RecordPlaces.{IsLineStart}
+use Rattle.arimaa_archive.specs.Archive.{IsLineStart}
 use Rattle.arimaa_archive.proofs.parts.cut_at_game.Given as goal
 
 abbrev pub invariant-lines : goal.invariant-lines
