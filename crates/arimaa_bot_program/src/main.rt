@@ -8,38 +8,18 @@ mod tests;
 use arimaa_bot::{BotEnd, run_bot};
 use arimaa_outside::{CommandWords, StdPort};
 use std::alloc::{AllocError, Global};
+use std::io;
 use std::io::BufReader;
 use std::process::ExitCode;
 use std::rt::Env;
 use std::thread::Threads;
-use std::{env, io};
-
-// The words after the program's own name. Where one of them is not UTF-8 there is a word alone that
-// is in no form, so that the answer is the same as to any other word.
-fn command_words(rt: &(impl Env + AllocGlobal)) -> Result<CommandWords, AllocError> {
-    let mut words = CommandWords::new(rt.alloc());
-    match env::args(rt) {
-        Ok(args) => {
-            for word in args.skip(1) {
-                words.push(word.as_str())?;
-            }
-        }
-        Err(error) => {
-            if error.kind() == io::ErrorKind::OutOfMemory {
-                return Err(AllocError);
-            }
-            words.push("")?;
-        }
-    }
-    Ok(words)
-}
 
 // Plays with the controller on standard input and standard output.
 fn play<R: Threads + Sync + Env + AllocGlobal + Input + Print>(
     rt: &R,
     alloc: Global,
 ) -> Result<BotEnd, AllocError> {
-    let words = command_words(rt)?;
+    let words = CommandWords::of_program(rt)?;
     match BufReader::new(alloc, rt.reader()) {
         Ok(reader) => {
             let mut port = StdPort::new(reader, io::writer(rt));
