@@ -1,5 +1,6 @@
 //! The command `play`: a match between two programs.
-ghost use Rattle.std.specs.Prelude.{◌≡◌, ◌≢◌, IfNone, IfSome, codes};
+ghost use Rattle.std.specs.Prelude.{◌≡◌, ◌≢◌, ◌≤◌, IfNone, IfSome, codes};
+ghost use Rattle.arimaa_outside.specs.Counts.{NeverFall};
 ghost use Rattle.arimaa_judge.specs.Texts.{line};
 ghost use Rattle.arimaa_outside.specs.declared.status.Status.TheVariants.{Memory, Words};
 ghost use Rattle.arimaa_outside.specs.Writing.{EndsWith, Outputs};
@@ -71,6 +72,8 @@ pub(crate) fn play<O: Sink, S: Spawner, K: Clock>(
         (O.contents output.old) (O.contents output.new) }
     ensures output { Outputs result (O.contents output.old) (O.contents output.new)
         (O.faults output.old) (O.faults output.new) }
+    ensures output_never_falls { O.faults output.old ≤ O.faults output.new }
+    ensures engines_never_fall { NeverFall (S.counts spawner.old) (S.counts spawner.new) }
 {
     let gold = asked.gold.as_str();
     let silver = asked.silver.as_str();
@@ -109,6 +112,10 @@ pub fn run_play<O: Sink, S: Spawner, K: Clock>(
     ensures clock { AsRead words.now (λ read. AsksNoMatch read → clock.new ≡ clock.old) }
     ensures output { Outputs result (O.contents output.old) (O.contents output.new)
         (O.faults output.old) (O.faults output.new) }
+
+    // No count of faults falls, nor one of what engines did.
+    ensures output_never_falls { O.faults output.old ≤ O.faults output.new }
+    ensures engines_never_fall { NeverFall (S.counts spawner.old) (S.counts spawner.new) }
 {
     let Ok(other) = other_words(alloc, words) else {
         return Status::Memory;
