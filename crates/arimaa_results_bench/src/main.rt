@@ -1,5 +1,6 @@
 //! Measures lists of results at a position, given by the side to move and a board text: `list` by layers, and `walk` the
-//! walk over all lists of steps that finds nothing. Each is made a number of times, and the least time is told.
+//! walk over all lists of steps that finds nothing. Each is made a number of times, and the least time is told. `agree`
+//! tells whether the layers and the walk list the same results in the same order, and how many.
 #![tactic(auto)]
 
 ghost use Rattle.std.specs.Prelude.{◌≡◌, ◌<◌, length};
@@ -7,7 +8,8 @@ ghost use Rattle.std.specs.Prelude.{◌≡◌, ◌<◌, length};
 use arimaa_board::{Color, Position, read_board};
 use arimaa_history::Barred;
 use arimaa_region::Region;
-use arimaa_results::{first_turn, results};
+use arimaa_results::{first_turn, layered, results};
+use std::alloc::AllocError;
 use std::rt::Runtime;
 use std::time::{Duration, Instant};
 use std::{env, io};
@@ -15,7 +17,7 @@ use std::{env, io};
 #[cfg(test)]
 mod tests;
 
-const USAGE: &str = "usage: arimaa_results_bench list|walk gold|silver BOARD [ROUNDS]";
+const USAGE: &str = "usage: arimaa_results_bench list|walk|agree gold|silver BOARD [ROUNDS]";
 
 // Lists the results and gives their places back; how many there were.
 fn list(p: &Position, barred: &Barred, region: &mut Region) -> u32
@@ -67,6 +69,31 @@ fn time_walks(
     Ok((found, least))
 }
 
+// Whether two regions list the same positions in the same order.
+fn same_lists(a: &Region, b: &Region) -> bool {
+    if a.live() != b.live() {
+        return false;
+    }
+    for place in 0..a.live() {
+        if place < b.live() && a.get(place) != b.get(place) {
+            return false;
+        }
+    }
+    true
+}
+
+// Whether the layers and the walk list the same results, and how many the layers list. The region of the walk has room
+// for one state alone, so its list is never made by layers.
+fn lists_agree(rt: &impl AllocGlobal, p: &Position) -> Result<(bool, u32), AllocError> {
+    let barred = Barred::new(rt.alloc());
+    let mut by_layers = Region::with_work(rt.alloc(), 262_144, 32_768)?;
+    let mut by_walk = Region::with_work(rt.alloc(), 262_144, 1)?;
+    let listed = layered(p, &barred, &mut by_layers).is_ok()
+        && results(p, &barred, &mut by_walk).is_ok();
+    let agree = listed && same_lists(&by_layers, &by_walk);
+    Ok((agree, by_layers.live()))
+}
+
 fn measure(
     rt: &(impl Runtime + AllocGlobal),
     p: &Position,
@@ -83,6 +110,10 @@ fn measure(
             let (found, least) = time_walks(rt, p, rounds)?;
             let nanoseconds = least.as_nanos();
             rt.println(format_args!("found {found} nanoseconds {nanoseconds}"))
+        }
+        "agree" => {
+            let (agree, size) = lists_agree(rt, p)?;
+            rt.println(format_args!("agree {agree} places {size}"))
         }
         _ => rt.println(format_args!("{USAGE}")),
     }

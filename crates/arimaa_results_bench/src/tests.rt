@@ -3,7 +3,7 @@ ghost use Rattle.std.specs.Prelude.{◌≡◌, ◌<◌, [], length, IfOk};
 
 use super::*;
 use arimaa_board::{Piece, Square};
-use arimaa_results::{Full, LayerFull, layered};
+use arimaa_results::{Full, LayerFull};
 use std::process::Abort;
 use std::test::Fail;
 
@@ -20,16 +20,6 @@ fn region_of_walks(rt: &impl AllocGlobal) -> Result<Region, Fail>
     Ok(Region::with_work(rt.alloc(), 32_768, 1)?)
 }
 
-// Asserts that two regions list the same positions.
-fn same_lists(rt: &impl Abort, a: &Region, b: &Region) {
-    assert_eq!(rt; a.live(), b.live());
-    for place in 0..a.live() {
-        if place < b.live() {
-            assert!(rt; a.get(place) == b.get(place));
-        }
-    }
-}
-
 // Asserts that the layers and the walk list the same results of a position; how many there are.
 fn listed_alike<R: Abort + AllocGlobal>(rt: &R, p: &Position) -> Result<u32, Fail> {
     let barred = Barred::new(rt.alloc());
@@ -37,7 +27,7 @@ fn listed_alike<R: Abort + AllocGlobal>(rt: &R, p: &Position) -> Result<u32, Fai
     let mut by_walk = region_of_walks(rt)?;
     assert!(rt; layered(p, &barred, &mut by_layers).is_ok());
     assert!(rt; results(p, &barred, &mut by_walk).is_ok());
-    same_lists(rt, &by_layers, &by_walk);
+    assert!(rt; same_lists(&by_layers, &by_walk));
     Ok(by_layers.live())
 }
 
