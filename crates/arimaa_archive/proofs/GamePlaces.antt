@@ -1,5 +1,5 @@
 -- Lines that begin no record, since the word stands nowhere in them.
-use Rattle.std.proofs.Common.{◌≡◌, ℕ, suc, zero, ◌+◌, ◌-◌, ◌<◌, ◌≤◌, ◌⊎◌, min, Bool, true, false, cond, List, [], ◌∷◌, ◌++◌, codes, length, get_or, take, drop, slice_index, refl, sym, ◌∙◌, ap, subst, arith, ⊎_elim, true≢false, add_assoc, append_assoc, drop-drop, length-drop, length-take, take_all, ◌==◌, inl, inr}
+use Rattle.std.proofs.Common.{◌≡◌, ℕ, suc, zero, ◌+◌, ◌-◌, ◌<◌, ◌≤◌, ◌⊎◌, min, Bool, true, false, List, ◌++◌, codes, length, get_or, take, drop, slice_index, refl, sym, ◌∙◌, ap, subst, arith, ⊎_elim, true≢false, add_assoc, append_assoc, drop-drop, length-drop, length-take, take_all, ◌==◌, inl, inr}
 use Rattle.std.specs.List.{position_or_len, prefix_len, suffix_len}
 use Rattle.std.specs.Str.Lines.{strip_carriage_return}
 use Rattle.std.proofs.lemmas.Bool.{cases_lt}
@@ -70,11 +70,10 @@ occurs_in_all xs word at n b some there =
 -- a line that begins a record has the word in it
 word_in : (line : List ℕ) → is_game_line line ≡ true → (b : ℕ) × OccursAt line (codes "game") b
 word_in line is =
-    let rest : List ℕ = without_first_blanks line in
-    (
+    let rest : List ℕ = without_first_blanks line in (
       prefix_len is_blank line,
       cut_occurs line (codes "game") (prefix_len is_blank line) (length rest - suffix_len is_blank rest)
-      ((bytes_eq-Decides (trimmed line) (codes "game")).0 is) (omega arith),
+          ((bytes_eq-Decides (trimmed line) (codes "game")).0 is) (omega arith),
     )
 
 -- a line without its carriage return is a front of it
@@ -94,8 +93,12 @@ first_within : (xs : List ℕ) → position_or_len is_feed xs ≤ length xs
 first_within xs =
     ⊎_elim
     (λ (beyond : length xs < position_or_len is_feed xs).
-    absurd (omega (arith, beyond, position_or_len_is is_feed xs (length xs) 0 (omega arith)
-    (λ k below. fails_before_first is_feed xs k 0 (omega arith)) (λ more. absurd (omega arith)))))
+    absurd (omega (
+      arith,
+      beyond,
+      position_or_len_is is_feed xs (length xs) 0 (omega arith)
+          (λ k below. fails_before_first is_feed xs k 0 (omega arith)) (λ more. absurd (omega arith)),
+    )))
     (λ fits. fits)
     (cases_lt (length xs) (position_or_len is_feed xs))
 
@@ -189,6 +192,8 @@ word_first bytes front place feed cut never inside is =
     let last : feed + 1 - 1 ≡ feed = omega arith in
     start_here bytes (feed + 1) (omega arith)
     (λ k fits there. never k (omega arith) (omega arith) there)
-    (inr (omega arith,
-    ap (λ j. is_feed (get_or bytes j 0)) last
-    ∙ (sym (ap (λ x. is_feed (get_or x feed 0)) cut ∙ ap is_feed (get_or-take place bytes feed 0 (omega arith))) ∙ is)))
+    (inr (
+      omega arith,
+      ap (λ j. is_feed (get_or bytes j 0)) last
+          ∙ (sym (ap (λ x. is_feed (get_or x feed 0)) cut ∙ ap is_feed (get_or-take place bytes feed 0 (omega arith))) ∙ is),
+    ))
