@@ -1,5 +1,5 @@
 -- Lines that begin no record, since the word stands nowhere in them.
-use Rattle.std.proofs.Common.{◌≡◌, ℕ, suc, zero, ◌+◌, ◌-◌, ◌<◌, ◌≤◌, ◌⊎◌, min, Bool, true, false, cond, List, [], ◌∷◌, ◌++◌, codes, length, get_or, take, drop, slice_index, refl, sym, ◌∙◌, ap, subst, arith, ⊎_elim, true≢false, add_assoc, append_assoc, drop-drop, length-drop, length-take, take_all, ◌==◌, inl, inr}
+use Rattle.std.proofs.Common.{◌≡◌, ℕ, suc, zero, ◌+◌, ◌-◌, ◌<◌, ◌≤◌, ◌⊎◌, min, Bool, true, false, List, ◌++◌, codes, length, get_or, take, drop, slice_index, refl, sym, ◌∙◌, ap, subst, arith, ⊎_elim, true≢false, add_assoc, append_assoc, drop-drop, length-drop, length-take, take_all, ◌==◌, inl, inr}
 use Rattle.std.specs.List.{position_or_len, prefix_len, suffix_len}
 use Rattle.std.specs.Str.Lines.{strip_carriage_return}
 use Rattle.std.proofs.lemmas.Bool.{cases_lt}
