@@ -35,7 +35,7 @@ const APART: &str = "Ra1 Rb1 Cc1 Dd1 De1 Rf1 Mg1 Hh1 Ra2 Rb2 Cc2 Rd2 Re2 Hf2 Rg2
 const NONE: [&[u64]; 3] = [&[], &[], &[]];
 
 // A match under the control `1/5`, in which no call fails and no time passes.
-fn row(
+fn plain(
     gold: &'static [&'static str],
     silver: &'static [&'static str],
     text: &'static [&'static str],
@@ -72,71 +72,71 @@ impl Row {
 // Faults while programs are started and sessions opened.
 fn opening_rows() -> [Row; 13] {
     [
-        row(&[], &[], &["# engine gold failed"]).failing(&[], &[], &[1]),
-        row(&["open"], &[], &["# engine silver failed"]).failing(&[], &[], &[2]),
-        row(&[], &["open"], &["# engine gold ended"]),
-        row(&["open"], &[], &["# engine silver ended"]),
-        row(&["aeiok", "long"], &["open"], &["# engine gold long"]),
-        row(&["open"], &["aeiok", "long"], &["# engine silver long"]),
-        row(&["noise", "open"], &["open"], &["# engine gold silent"]),
-        row(&["open"], &["aeiok", "noise"], &["# engine silver silent"]),
-        row(
+        plain(&[], &[], &["# engine gold failed"]).failing(&[], &[], &[1]),
+        plain(&["open"], &[], &["# engine silver failed"]).failing(&[], &[], &[2]),
+        plain(&[], &["open"], &["# engine gold ended"]),
+        plain(&["open"], &[], &["# engine silver ended"]),
+        plain(&["aeiok", "long"], &["open"], &["# engine gold long"]),
+        plain(&["open"], &["aeiok", "long"], &["# engine silver long"]),
+        plain(&["noise", "open"], &["open"], &["# engine gold silent"]),
+        plain(&["open"], &["aeiok", "noise"], &["# engine silver silent"]),
+        plain(
             &["protocol-version 2", "open"],
             &["open"],
             &["# engine gold version"],
         ),
-        row(
+        plain(
             &["open"],
             &["protocol-version 2", "open"],
             &["# engine silver version"],
         ),
-        row(&["open"], &["open"], &["# engine gold failed"]).failing(&[1], &[], &[]),
-        row(&["open"], &["open"], &["# engine gold failed"]).failing(&[11], &[], &[]),
-        row(&["open"], &["open"], &["# engine silver failed"]).failing(&[], &[4], &[]),
+        plain(&["open"], &["open"], &["# engine gold failed"]).failing(&[1], &[], &[]),
+        plain(&["open"], &["open"], &["# engine gold failed"]).failing(&[11], &[], &[]),
+        plain(&["open"], &["open"], &["# engine silver failed"]).failing(&[], &[4], &[]),
     ]
 }
 
 // Faults of sessions while a match goes on: the reserves, `go`, the answer, and what was booked.
 fn break_rows() -> [Row; 12] {
     [
-        row(&["open", "G"], &["open"], &["1g", "# engine gold failed"]).failing(&[14], &[], &[]),
-        row(&["open", "G"], &["open"], &["1g", "# engine gold failed"]).failing(&[16], &[], &[]),
-        row(&["open", "G"], &["open"], &["1g", "# engine gold failed"]).failing(&[17], &[], &[]),
-        row(
+        plain(&["open", "G"], &["open"], &["1g", "# engine gold failed"]).failing(&[14], &[], &[]),
+        plain(&["open", "G"], &["open"], &["1g", "# engine gold failed"]).failing(&[16], &[], &[]),
+        plain(&["open", "G"], &["open"], &["1g", "# engine gold failed"]).failing(&[17], &[], &[]),
+        plain(
             &["open", "G"],
             &["open"],
             &["1g G", "1s", "# engine gold failed"],
         )
         .failing(&[18], &[], &[]),
-        row(
+        plain(
             &["open", "G"],
             &["open"],
             &["1g G", "1s", "# engine silver failed"],
         )
         .failing(&[], &[14], &[]),
-        row(&["open"], &["open"], &["1g", "# engine gold ended"]),
-        row(&["open", "long"], &["open"], &["1g", "# engine gold long"]),
-        row(
+        plain(&["open"], &["open"], &["1g", "# engine gold ended"]),
+        plain(&["open", "long"], &["open"], &["1g", "# engine gold long"]),
+        plain(
             &["open", "noise", "G"],
             &["open"],
             &["1g", "# engine gold silent"],
         ),
-        row(
+        plain(
             &["open", "G"],
             &["open"],
             &["1g G", "1s", "# engine silver ended"],
         ),
-        row(
+        plain(
             &["open", "G"],
             &["open", "long"],
             &["1g G", "1s", "# engine silver long"],
         ),
-        row(
+        plain(
             &["open", "G"],
             &["open", "noise"],
             &["1g G", "1s", "# engine silver silent"],
         ),
-        row(
+        plain(
             &["open", "G", "Cc2n"],
             &["open", "S"],
             &[
@@ -153,7 +153,7 @@ fn break_rows() -> [Row; 12] {
 // Matches that are won by an answer.
 fn win_rows() -> [Row; 10] {
     [
-        row(
+        plain(
             &["open", "G", "Cc2n"],
             &["open", "S", "ed7n"],
             &[
@@ -164,7 +164,7 @@ fn win_rows() -> [Row; 10] {
                 "# winner gold illegal",
             ],
         ),
-        row(
+        plain(
             &["open", "G", "Cc2n Cc3x"],
             &["open", "S", "resigns"],
             &[
@@ -175,37 +175,37 @@ fn win_rows() -> [Row; 10] {
                 "# winner gold resign",
             ],
         ),
-        row(
+        plain(
             &["open", "G", "Cc2n Cf3x"],
             &["open", "S"],
             &["1g G", "1s S", "2g", "# winner silver illegal"],
         ),
-        row(
+        plain(
             &["open", "Ra1 Rb1"],
             &["open"],
             &["1g", "# winner silver illegal"],
         ),
-        row(
+        plain(
             &["open", "S"],
             &["open"],
             &["1g", "# winner silver illegal"],
         ),
-        row(
+        plain(
             &["open", "G"],
             &["open", "G"],
             &["1g G", "1s", "# winner gold illegal"],
         ),
-        row(
+        plain(
             &["open", "resign"],
             &["open"],
             &["1g resigns", "# winner silver resign"],
         ),
-        row(
+        plain(
             &["open", "G"],
             &["open", "resign"],
             &["1g G", "1s resigns", "# winner gold resign"],
         ),
-        row(
+        plain(
             &["open", "G", "Ra2n", "Ra3n", "Ra4n Ra5n Ra6n Ra7n"],
             &["open", "H", "ra7s ra6s ra5e", "ra8s ra7s ra6e"],
             &[
@@ -219,7 +219,7 @@ fn win_rows() -> [Row; 10] {
                 "# winner gold goal",
             ],
         ),
-        row(
+        plain(
             &["open", "G", "Ee2n", "Ee3s", "Ee2n", "Ee3s"],
             &["open", "S", "ed7s", "ed6n", "ed7s", "ed6n"],
             &[
@@ -242,47 +242,47 @@ fn win_rows() -> [Row; 10] {
 // Matches that the time or a limit ends.
 fn time_rows() -> [Row; 8] {
     [
-        row(
+        plain(
             &["open", "G"],
             &["open", "resign"],
             &["1g G", "1s resigns", "# winner gold resign"],
         )
         .timed("0:01/0:02", &[0, 3_000]),
-        row(
+        plain(
             &["open", "G"],
             &["open"],
             &["1g time", "# winner silver time"],
         )
         .timed("0:01/0:02", &[0, 3_001]),
-        row(
+        plain(
             &["open", "resign"],
             &["open"],
             &["1g time", "# winner silver time"],
         )
         .timed("0:01/0:02", &[0, 3_001]),
-        row(
+        plain(
             &["open", "G"],
             &["open", "S"],
             &["1g G", "1s time", "# winner gold time"],
         )
         .timed("0:01/0:02", &[0, 0, 5, 3_006]),
-        row(
+        plain(
             &["open", "G"],
             &["open"],
             &["1g time", "# winner silver time"],
         )
         .timed("1/5/100/0/0/0:04", &[7, 4_008]),
-        row(
+        plain(
             &["open", "G", "Ra2n"],
             &["open", "S"],
             &["1g G", "1s S", "2g Ra2n", "2s", "# limit"],
         )
         .timed("1/5/100/0/1t", &[]),
-        row(&["open", "G"], &["open"], &["1g G", "1s", "# limit"]).timed(
+        plain(&["open", "G"], &["open"], &["1g G", "1s", "# limit"]).timed(
             "5/5/100/0/0:01",
             &[0, 60_000],
         ),
-        row(
+        plain(
             &["open", "G"],
             &["open", "resign"],
             &["1g G", "1s resigns", "# winner gold resign"],
