@@ -514,7 +514,7 @@ const GOOD_WORDS: [&str; 8] = [
 ];
 
 // Words of `prove` that are not.
-const BAD_WORDS: [&str; 21] = [
+const BAD_WORDS: [&str; 20] = [
     "prove gold 21",
     "prove gold 0 --workers 0",
     "prove gold 0 --workers 17",
@@ -535,7 +535,6 @@ const BAD_WORDS: [&str; 21] = [
     "prove gold 0 5 --lines",
     "prove gold 0 --lines 05",
     "prove gold 0 --lines +5",
-    "prove --lines 5 gold 0",
 ];
 
 const AT_HOME: &str =

@@ -385,7 +385,7 @@ const ROWS: [Row<'static>; 38] = [
     },
 ];
 
-const BAD_WORDS: [&str; 19] = [
+const BAD_WORDS: [&str; 17] = [
     "check",
     "check gold",
     "check 1 gold",
@@ -398,9 +398,7 @@ const BAD_WORDS: [&str; 19] = [
     "check gold 1 --room 0",
     "check gold 1 --room 1048577",
     "check gold 1 --room 01",
-    "check gold 1 --room=5",
     "check gold 1 room 5",
-    "check --room 5 gold 1",
     "check gold 1 --room 5 --room 5",
     "check gold 1 --lines 5",
     "Check gold 1",
