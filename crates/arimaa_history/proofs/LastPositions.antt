@@ -1,6 +1,8 @@
 -- What is kept beside the positions of a history from which the last one is taken.
-use Rattle.std.proofs.Common.{◌≡◌, ℕ, ◌+◌, ◌-◌, Bool, true, false, cond, ◌||◌, List, [], ◌∷◌, ◌++◌, length, take, BTreeMap, ◌⊎◌, inl, inr, refl, sym, ◌∙◌, ap, subst, arith, ⊎_elim, length-append, ne_eqb}
+use Rattle.std.proofs.Common.{◌≡◌, ℕ, ◌+◌, ◌-◌, ◌≤◌, Bool, true, false, cond, ◌||◌, List, [], ◌∷◌, ◌++◌, length, take, BTreeMap, ◌⊎◌, inl, inr, refl, sym, ◌∙◌, ap, subst, arith, ⊎_elim, length-append, ne_eqb}
 use Rattle.std.specs.Prelude.{◌==◌}
+use Rattle.std.specs.Ordering.{is_eq}
+use Rattle.std.specs.BTreeSet.{BTreeSet}
 use Rattle.std.specs.HashSet.{HashSet, contains}
 use Rattle.std.proofs.Math.Seq.{take-append_seam}
 use Rattle.std.proofs.lemmas.Bool.{cases_Bool}
@@ -14,7 +16,7 @@ use Rattle.arimaa_model.proofs.Positions.{same_position-Decides, same_position-s
 use Rattle.arimaa_model.proofs.Barring.{barred-more}
 use Rattle.arimaa_history.specs.declared.key.Key.{Key}
 use Rattle.arimaa_history.specs.Keys.{key_of, position_at}
-use Rattle.arimaa_history.specs.Counts.{order_of, same_key, count_of, without_last, AreCounts, AreKept, AreKeys, IsCounted}
+use Rattle.arimaa_history.specs.Counts.{order_of, same_key, count_of, has_key, without_last, AreCounts, AreKept, AreKeys, HasKeys, IsCounted}
 use Rattle.arimaa_history.proofs.KeyTests.{same_keys, tied_keys}
 
 -- what stands before the last position
@@ -57,57 +59,126 @@ keys-less ps keys less p are apart back updated q q_back =
         alone true = refl
         alone false = refl
 
-module _ (h : List Position) (counts less : BTreeMap Key ℕ) (p : Position) (back : position_at (key_of p) ≡ p) where
+module _ (h : List Position) (p : Position) (back : position_at (key_of p) ≡ p) where
+  -- the set from which the key of p was taken has the keys of the list without p at its end, where p
+  -- does not stand there
+  has-less : (keys less : BTreeSet Key) → count_in h p ≡ 0 → HasKeys (h ++ p ∷ []) keys
+      → ((k : Key) → has_key less k ≡ cond (is_eq (order_of (key_of p) k)) false (has_key keys k))
+      → HasKeys h less
+  has-less keys less none are updated q q_back =
+      let value : has_key less (key_of q) ≡ cond (same_position q p) false (has_key keys (key_of q)) =
+      updated (key_of q) ∙ ap (λ (b : Bool). cond b false (has_key keys (key_of q))) (tied_keys p q back q_back) in
+      let gain = count-more h p q in
+      ⊎_elim
+      (λ (same : same_position q p ≡ true).
+      let now : has_key less (key_of q) ≡ false = rw same at value in
+      let here : count_in h q ≡ 0 = ap (count_in h) ((same_position-Decides q p).0 same) ∙ none in
+      (λ (there : has_key less (key_of q) ≡ true). absurd (not-both (sym there ∙ now)), λ (_ : has_key less (key_of q) ≡ false). here))
+      (λ (other : same_position q p ≡ false).
+      let now : has_key less (key_of q) ≡ has_key keys (key_of q) = rw other at value in
+      let then : count_in (h ++ p ∷ []) q ≡ count_in h q + 0 = rw other at gain in (
+        λ (there : has_key less (key_of q) ≡ true). let old = (are q q_back).0 (sym now ∙ there) in omega (arith, then, old),
+        λ (lacks : has_key less (key_of q) ≡ false). let old = (are q q_back).1 (sym now ∙ lacks) in omega (arith, then, old),
+      ))
+      (cases_Bool (same_position q p)) where
+        not-both : true ≡ false → ⊥
+        not-both e = cc
+
+  -- the set stays where p stands in the list without p at its end
+  has-still : (keys : BTreeSet Key) → 1 ≤ count_in h p → HasKeys (h ++ p ∷ []) keys → HasKeys h keys
+  has-still keys stood are q q_back =
+      let gain = count-more h p q in
+      ⊎_elim
+      (λ (same : same_position q p ≡ true).
+      let here : 1 ≤ count_in h q = subst (λ (x : Position). 1 ≤ count_in h x) (sym ((same_position-Decides q p).0 same)) stood in
+      let then : count_in (h ++ p ∷ []) q ≡ count_in h q + 1 = rw same at gain in (
+        λ (_ : has_key keys (key_of q) ≡ true). here,
+        λ (lacks : has_key keys (key_of q) ≡ false). let old = (are q q_back).1 lacks in omega (arith, then, old),
+      ))
+      (λ (other : same_position q p ≡ false).
+      let then : count_in (h ++ p ∷ []) q ≡ count_in h q + 0 = rw other at gain in (
+        λ (there : has_key keys (key_of q) ≡ true). let old = (are q q_back).0 there in omega (arith, then, old),
+        λ (lacks : has_key keys (key_of q) ≡ false). let old = (are q q_back).1 lacks in omega (arith, then, old),
+      ))
+      (cases_Bool (same_position q p))
+
   -- the map in which the count of p is one less counts the list without p at its end
-  counting-less : AreCounts (h ++ p ∷ []) counts → IsCounted counts less (key_of p) (count_of counts (key_of p) - 1) → AreCounts h less
-  counting-less are counted q q_back =
-      let value : count_of less (key_of q) ≡ cond (same_position q p) (count_of counts (key_of p) - 1) (count_of counts (key_of q)) =
-      counted (key_of q) ∙ ap (λ (v : Bool). cond v (count_of counts (key_of p) - 1) (count_of counts (key_of q))) (tied_keys p q back q_back) in
-      let was : count_of counts (key_of q) ≡ count_in (h ++ p ∷ []) q = are q q_back in
+  counting-less : (again less : BTreeMap Key ℕ) → AreCounts (h ++ p ∷ []) again
+      → IsCounted again less (key_of p) (count_of again (key_of p) - 1) → AreCounts h less
+  counting-less again less are counted q q_back =
+      let value : count_of less (key_of q) ≡ cond (same_position q p) (count_of again (key_of p) - 1) (count_of again (key_of q)) =
+      counted (key_of q) ∙ ap (λ (v : Bool). cond v (count_of again (key_of p) - 1) (count_of again (key_of q))) (tied_keys p q back q_back) in
+      let was : count_of again (key_of q) ≡ count_in (h ++ p ∷ []) q - 1 = are q q_back in
       let gain : count_in (h ++ p ∷ []) q ≡ count_in h q + cond (same_position q p) 1 0 = count-more h p q in
       ⊎_elim
       (λ (same : same_position q p ≡ true).
       let alike : p ≡ q = sym ((same_position-Decides q p).0 same) in
-      let before : count_of counts (key_of p) ≡ count_in (h ++ p ∷ []) q = ap (λ (x : Position). count_of counts (key_of x)) alike ∙ was in
-      let now : count_of less (key_of q) ≡ count_of counts (key_of p) - 1 = rw same at value in
+      let before : count_of again (key_of p) ≡ count_in (h ++ p ∷ []) q - 1 = ap (λ (x : Position). count_of again (key_of x)) alike ∙ was in
+      let now : count_of less (key_of q) ≡ count_of again (key_of p) - 1 = rw same at value in
       let then : count_in (h ++ p ∷ []) q ≡ count_in h q + 1 = rw same at gain in
       omega (arith, now, before, then))
       (λ (other : same_position q p ≡ false).
-      let now : count_of less (key_of q) ≡ count_of counts (key_of q) = rw other at value in
+      let now : count_of less (key_of q) ≡ count_of again (key_of q) = rw other at value in
       let then : count_in (h ++ p ∷ []) q ≡ count_in h q + 0 = rw other at gain in
       omega (arith, now, was, then))
       (cases_Bool (same_position q p))
 
-module _ (h barred : List Position) (counts less : BTreeMap Key ℕ) (p : Position) (key : Key) (is : key ≡ key_of p) (gives_back : position_at key ≡ p)
-    (kept : AreKept (h ++ p ∷ []) barred counts) (counted : IsCounted counts less key (count_of counts key - 1)) where
+module _ (h all barred : List Position) (keys : BTreeSet Key) (again less : BTreeMap Key ℕ) (p : Position) (key : Key)
+    (is : key ≡ key_of p) (gives_back : position_at key ≡ p) (items : all ≡ h ++ p ∷ []) (kept_all : AreKept all barred keys again)
+    (counted : IsCounted again less key (count_of again key - 1)) where
+  kept : AreKept (h ++ p ∷ []) barred keys again
+  kept = subst (λ (xs : List Position). AreKept xs barred keys again) items kept_all
+
   back : position_at (key_of p) ≡ p
   back = sym (ap position_at is) ∙ gives_back
 
   -- how often the position stands in the list without it at its end
-  left_count : count_of counts key - 1 ≡ count_in h p
+  left_count : count_of again key ≡ count_in h p
   left_count =
-      let here : count_of counts key ≡ count_in (h ++ p ∷ []) p = ap (count_of counts) is ∙ kept.counting p back in
+      let here : count_of again key ≡ count_in (h ++ p ∷ []) p - 1 = ap (count_of again) is ∙ kept.counting p back in
       let gain : count_in (h ++ p ∷ []) p ≡ count_in h p + cond (same_position p p) 1 0 = count-more h p p in
       let then : count_in (h ++ p ∷ []) p ≡ count_in h p + 1 = rw (same_position-same p p refl) at gain in
       omega (arith, here, then)
 
   counts_less : AreCounts h less
-  counts_less = counting-less h counts less p back kept.counting (subst (λ (k : Key). IsCounted counts less k (count_of counts k - 1)) is counted)
+  counts_less = counting-less h p back again less kept.counting (subst (λ (k : Key). IsCounted again less k (count_of again k - 1)) is counted)
 
   was_barred : barred ≡ barred_by h ++ if_second h p []
   was_barred = kept.barring ∙ barred-more h p
 
-  -- what is kept where the position stands once: it was the last that is barred
-  pub kept_once : (left : ℕ) (now : List Position) → left ≡ count_of counts key - 1 → left ≡ 1 → now ≡ without_last barred → AreKept h now less
-  kept_once left now count once rest =
-      let here : count_in h p ≡ 1 = sym (count ∙ left_count) ∙ once in
+  -- the barred ones stay where the position stood not once
+  still_barred : (count_of again key ≡ 1 → ⊥) → barred ≡ barred_by h
+  still_barred other =
+      let none : (count_in h p == 1) ≡ false = ne_eqb (count_in h p) 1 (λ e. other (left_count ∙ e)) in
+      let was : barred ≡ barred_by h ++ [] = rw none at was_barred in
+      was ∙ append-nil (barred_by h)
+
+  -- what is kept where the position stands no more
+  pub kept_none : (now : BTreeSet Key) → count_of again key ≡ 0
+      → ((k : Key) → has_key now k ≡ cond (is_eq (order_of key k)) false (has_key keys k)) → AreKept h barred now less
+  kept_none now none updated = record {
+    barring = still_barred (λ once. omega (arith, none, once));
+    standing = has-less h p back keys now (sym left_count ∙ none) kept.standing
+        (subst (λ (j : Key). (k : Key) → has_key now k ≡ cond (is_eq (order_of j k)) false (has_key keys k)) is updated);
+    counting = counts_less;
+  }
+
+  -- what is kept where it stands once: it was the last that is barred
+  pub kept_once : (now : List Position) → count_of again key ≡ 1 → now ≡ without_last barred → AreKept h now keys less
+  kept_once now once rest =
+      let here : count_in h p ≡ 1 = sym left_count ∙ once in
       let one : (count_in h p == 1) ≡ true = rw here refl in
       let was : barred ≡ barred_by h ++ p ∷ [] = rw one at was_barred in
-      record { barring = rest ∙ (ap without_last was ∙ without_last-push (barred_by h) p); counting = counts_less }
+      record {
+        barring = rest ∙ (ap without_last was ∙ without_last-push (barred_by h) p);
+        standing = has-still h p back keys (omega (arith, here)) kept.standing;
+        counting = counts_less;
+      }
 
-  -- what is kept where it stands more often or not at all
-  pub kept_other : (left : ℕ) → left ≡ count_of counts key - 1 → (left ≡ 1 → ⊥) → AreKept h barred less
-  kept_other left count other =
-      let none : (count_in h p == 1) ≡ false = ne_eqb (count_in h p) 1 (λ e. other (count ∙ (left_count ∙ e))) in
-      let was : barred ≡ barred_by h ++ [] = rw none at was_barred in
-      record { barring = was ∙ append-nil (barred_by h); counting = counts_less }
+  -- what is kept where it stands more often
+  pub kept_often : 2 ≤ count_of again key → AreKept h barred keys less
+  kept_often often = record {
+    barring = still_barred (λ once. omega (arith, often, once));
+    standing = has-still h p back keys (omega (arith, often, left_count)) kept.standing;
+    counting = counts_less;
+  }
