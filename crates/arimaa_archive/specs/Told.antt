@@ -1,7 +1,7 @@
 -- What is told of a record: its judgement without the positions of its game.
 use Rattle.std.specs.Prelude.{◌≡◌, ℕ, Bool, true, false, not, List}
-use Rattle.arimaa_judge.specs.declared.judging.Judged.{Judged}
-use Rattle.arimaa_judge.specs.declared.judging.Judged.TheVariants as judgement
+use Rattle.arimaa_judge.specs.declared.judgement.Judged.{Judged}
+use Rattle.arimaa_judge.specs.declared.judgement.Judged.TheVariants as judgement
 use Rattle.arimaa_judge.specs.Judged.{IsJudgedFrom}
 use Rattle.arimaa_judge.specs.RecordState.{before_lines}
 use Rattle.arimaa_judge.specs.Texts.{text_of_bad, text_of_lawful}

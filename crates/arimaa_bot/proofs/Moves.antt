@@ -4,7 +4,7 @@ use Rattle.arimaa_board.specs.declared.position.Position.{Position}
 use Rattle.arimaa_board.specs.declared.turn.NotedStep.{NotedStep}
 use Rattle.arimaa_board.specs.Noted.{noted_turn}
 use Rattle.arimaa_model.specs.Game.{present}
-use Rattle.arimaa_step.specs.declared.marking.Marks.TheVariants.{Optional}
+use Rattle.arimaa_step.specs.declared.marks.Marks.TheVariants.{Optional}
 use Rattle.arimaa_step.specs.MarkRules.{marks_fit}
 use Rattle.arimaa_game.specs.declared.fault.GameFault.{GameFault}
 use Rattle.arimaa_game.specs.declared.fault.GameFault.TheVariants as faults

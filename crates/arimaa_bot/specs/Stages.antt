@@ -9,7 +9,7 @@ use Rattle.arimaa_board.specs.Fit.{IsFit}
 use Rattle.arimaa_board.specs.Noted.{noted_turn}
 use Rattle.arimaa_board.specs.Setup.{Lineup}
 use Rattle.arimaa_model.specs.Game.{present}
-use Rattle.arimaa_step.specs.declared.marking.Marks.TheVariants.{Optional}
+use Rattle.arimaa_step.specs.declared.marks.Marks.TheVariants.{Optional}
 use Rattle.arimaa_step.specs.MarkRules.{marks_fit}
 use Rattle.arimaa_game.specs.declared.fault.GameFault.{GameFault}
 use Rattle.arimaa_game.specs.Play.{Play, begun, grown, played}

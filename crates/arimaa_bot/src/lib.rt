@@ -8,9 +8,9 @@
 mod bot_end;
 mod choice;
 mod options;
+mod outgoing;
 mod plain;
 mod reply;
-mod sending;
 mod session;
 mod stage;
 

@@ -11,8 +11,8 @@ ghost use Rattle.arimaa_bot.specs.declared.options.Lookahead.{Lookahead as Value
 use crate::bot_end::BotEnd;
 use crate::choice::choose;
 use crate::options::{Lookahead, read_options};
+use crate::outgoing::send_reply;
 use crate::reply::Reply;
-use crate::sending::send_reply;
 use crate::stage::{Stage, begin_at, tell_setup, tell_turn};
 use arimaa_aei::{Command, CommandFault, read_command};
 use arimaa_outside::{CommandWords, Heard, Port, PortFault};

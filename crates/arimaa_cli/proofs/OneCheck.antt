@@ -10,7 +10,7 @@ use Rattle.arimaa_board.specs.declared.position.Position.{Position}
 use Rattle.arimaa_forced.specs.declared.entry.Entry.{Entry}
 use Rattle.arimaa_forced.specs.Acceptance.{is_ready, root_rank}
 use Rattle.arimaa_forced.specs.Entries.{AcceptsEntries}
-use Rattle.arimaa_judge.specs.declared.judging.Judged.{Judged}
+use Rattle.arimaa_judge.specs.declared.judgement.Judged.{Judged}
 use Rattle.arimaa_judge.specs.Agreement.{JudgementsAgree}
 use Rattle.arimaa_judge.specs.Judged.{IsJudged, IsJudgedFrom}
 use Rattle.arimaa_judge.specs.RecordState.{before_lines}

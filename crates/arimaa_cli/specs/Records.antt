@@ -1,6 +1,6 @@
 -- What is answered about the record that the input is.
 use Rattle.std.specs.Prelude.{◌≡◌, ℕ, List}
-use Rattle.arimaa_judge.specs.declared.judging.Judged.TheVariants as judgement
+use Rattle.arimaa_judge.specs.declared.judgement.Judged.TheVariants as judgement
 use Rattle.arimaa_judge.specs.declared.rule.Rule.{Rule}
 use Rattle.arimaa_judge.specs.Judged.{IsJudged}
 use Rattle.arimaa_judge.specs.Texts.{text_of_bad}

@@ -6,8 +6,8 @@ use Rattle.arimaa_record.specs.Lines.{lines_of}
 use Rattle.arimaa_record.proofs.LineLaws.{no_lines}
 use Rattle.arimaa_record.specs.declared.line.RecordLine.TheVariants as line
 use Rattle.arimaa_board.specs.Setup.{Lineup}
-use Rattle.arimaa_judge.specs.declared.judging.Judged.{Judged}
-use Rattle.arimaa_judge.specs.declared.judging.Judged.TheVariants.{Bad}
+use Rattle.arimaa_judge.specs.declared.judgement.Judged.{Judged}
+use Rattle.arimaa_judge.specs.declared.judgement.Judged.TheVariants.{Bad}
 use Rattle.arimaa_judge.specs.declared.rule.Rule.{Rule}
 use Rattle.arimaa_judge.specs.RecordState.{Reading, RecordState, after_reading, with_setup_after}
 use Rattle.arimaa_judge.specs.Rules.{rule_at}

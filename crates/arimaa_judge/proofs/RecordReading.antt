@@ -12,7 +12,7 @@ use Rattle.arimaa_record.specs.declared.line_reader.LineReader.{LineReader}
 use Rattle.arimaa_record.specs.Lines.{lines_of}
 use Rattle.arimaa_record.specs.LineReader.{Advances, IsFirstLine, IsNew, IsNext, StaysEnded, Takes, to_come}
 use Rattle.arimaa_record.proofs.LineLaws.{no_lines}
-use Rattle.arimaa_judge.specs.declared.judging.Judged.{Judged}
+use Rattle.arimaa_judge.specs.declared.judgement.Judged.{Judged}
 use Rattle.arimaa_judge.specs.declared.progress.Progress.{Progress}
 use Rattle.arimaa_judge.specs.Judged.{IsJudged}
 use Rattle.arimaa_judge.specs.Stop.{stop_of}

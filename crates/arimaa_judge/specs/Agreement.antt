@@ -2,8 +2,8 @@
 use Rattle.std.specs.Prelude.{◌≡◌, ◌≤◌, ℕ, List, length}
 use Rattle.arimaa_record.specs.Lines.{lines_of}
 use Rattle.arimaa_record.specs.declared.label.Label.{Label}
-use Rattle.arimaa_judge.specs.declared.judging.Judged.{Judged}
-use Rattle.arimaa_judge.specs.declared.judging.Judged.TheVariants.{Bad}
+use Rattle.arimaa_judge.specs.declared.judgement.Judged.{Judged}
+use Rattle.arimaa_judge.specs.declared.judgement.Judged.TheVariants.{Bad}
 use Rattle.arimaa_judge.specs.declared.rule.Rule.{Rule}
 use Rattle.arimaa_judge.specs.Judged.{IsJudged}
 

@@ -7,8 +7,8 @@ use Rattle.arimaa_game.specs.Play.{AreLawful, turns_in}
 use Rattle.arimaa_record.specs.Grammar.{IsLineReading}
 use Rattle.arimaa_record.specs.Lines.{lines_of}
 use Rattle.arimaa_record.specs.declared.label.Label.{Label}
-use Rattle.arimaa_judge.specs.declared.judging.Judged.{Judged}
-use Rattle.arimaa_judge.specs.declared.judging.Judged.TheVariants.{Lawful, Bad}
+use Rattle.arimaa_judge.specs.declared.judgement.Judged.{Judged}
+use Rattle.arimaa_judge.specs.declared.judgement.Judged.TheVariants.{Lawful, Bad}
 use Rattle.arimaa_judge.specs.declared.rule.Rule.{Rule}
 use Rattle.arimaa_judge.specs.RecordState.{Reading, RecordState, after_reading, before_lines, state_ending}
 use Rattle.arimaa_judge.specs.RecordStateInvariant.{IsByWord}

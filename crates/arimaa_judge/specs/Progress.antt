@@ -1,6 +1,6 @@
 -- The judgement of a record after some of its lines.
 use Rattle.std.specs.Prelude.{◌≡◌, ℕ, ◌+◌, ◌∷◌, List, None}
-use Rattle.arimaa_judge.specs.declared.judging.Judged.{Judged}
+use Rattle.arimaa_judge.specs.declared.judgement.Judged.{Judged}
 use Rattle.arimaa_judge.specs.declared.progress.Progress.{Progress}
 use Rattle.arimaa_judge.specs.RecordState.{before_lines}
 use Rattle.arimaa_judge.specs.Judged.{IsJudgedFrom, IsOutcome}

@@ -8,8 +8,8 @@ use Rattle.arimaa_board.specs.declared.ending.Cause.TheVariants as cause
 use Rattle.arimaa_board.specs.declared.ending.Ending.{Ending}
 use Rattle.arimaa_record.specs.Label.{text_of_label}
 use Rattle.arimaa_record.specs.declared.label.Label.{Label}
-use Rattle.arimaa_judge.specs.declared.judging.Judged.{Judged}
-use Rattle.arimaa_judge.specs.declared.judging.Judged.TheVariants.{Lawful, Bad}
+use Rattle.arimaa_judge.specs.declared.judgement.Judged.{Judged}
+use Rattle.arimaa_judge.specs.declared.judgement.Judged.TheVariants.{Lawful, Bad}
 use Rattle.arimaa_judge.specs.declared.rule.Rule.{Rule}
 use Rattle.arimaa_judge.specs.declared.rule.Rule.TheVariants as rule
 

@@ -5,7 +5,7 @@
 #![tactic(auto)]
 
 mod game_fault;
-mod judging;
+mod judgement;
 mod laws;
 mod progress;
 mod record_state;
@@ -16,7 +16,7 @@ mod text;
 pub use arimaa_history::History;
 pub use arimaa_model::Ending;
 pub use arimaa_record::Label;
-pub use judging::{Judged, judge, judge_from};
+pub use judgement::{Judged, judge, judge_from};
 pub use laws::{bad_lines_are_there, judgements_agree};
 pub use rule::Rule;
 pub use stop::JudgeStop;

@@ -3,7 +3,7 @@ ghost use Rattle.std.specs.Prelude.{◌≡◌, ◌≤◌, ◌<◌, ◌+◌, ◌^
 ghost use Rattle.arimaa_judge.specs.Judged.{HasEnding, HasFitBoards, HasLawfulTurns, HasTurnCount};
 ghost use Rattle.arimaa_judge.specs.Progress.{IsAtBegin, LeadsOn, LeadsTo};
 
-use crate::judging::Judged;
+use crate::judgement::Judged;
 use crate::record_state::RecordState;
 use crate::rule::Rule;
 use std::alloc::{AllocError, Global};

@@ -13,7 +13,7 @@ ghost use Rattle.arimaa_judge.specs.Rules.{rule_after_closing, rule_at, rule_of_
 ghost use Rattle.arimaa_judge.specs.Judged.{Accepts, TakesLine, HasFitBoards, HasLawfulTurns, HasTurnCount, HasEnding, lawful_of};
 
 use crate::game_fault::rule_of_game_fault;
-use crate::judging::Judged;
+use crate::judgement::Judged;
 use crate::rule::Rule;
 use arimaa_board::{Board, Color, Noted, Position, Setup};
 use arimaa_game::Game;

@@ -16,7 +16,7 @@ use Rattle.arimaa_model.specs.Faults.{applied, first_fault, judged_turn, reached
 use Rattle.arimaa_model.specs.FirstFaults.{first_fault_in, step_or_whole, whole_fault}
 use Rattle.arimaa_model.specs.Marks.{marks_of, marks_right}
 use Rattle.arimaa_model.specs.Moves.{after}
-use Rattle.arimaa_step.specs.declared.marking.Marks.TheVariants.{Optional}
+use Rattle.arimaa_step.specs.declared.marks.Marks.TheVariants.{Optional}
 use Rattle.arimaa_step.specs.MarkRules.{marks_fit}
 use Rattle.arimaa_model.specs.Game.{count_in, ending, present}
 use Rattle.arimaa_game.specs.declared.fault.GameFault.{GameFault}

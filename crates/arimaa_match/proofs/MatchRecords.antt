@@ -16,7 +16,7 @@ use Rattle.arimaa_model.specs.Marks.{marks_of}
 use Rattle.arimaa_notation.specs.Readers.{setup_of_text, turn_of_text}
 use Rattle.arimaa_notation.proofs.Reading.{turn_named}
 use Rattle.arimaa_notation.proofs.SetupRule.{setup_named}
-use Rattle.arimaa_step.specs.declared.marking.Marks.TheVariants.{Optional}
+use Rattle.arimaa_step.specs.declared.marks.Marks.TheVariants.{Optional}
 use Rattle.arimaa_step.specs.MarkRules.{marks_fit}
 use Rattle.arimaa_time.specs.declared.control.Control.{Control}
 use Rattle.arimaa_outside.specs.declared.port_fault.PortFault.{PortFault}

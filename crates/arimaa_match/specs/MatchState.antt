@@ -17,7 +17,7 @@ use Rattle.arimaa_board.specs.declared.ending.Word.{Word}
 use Rattle.arimaa_board.specs.declared.ending.Word.TheVariants as word
 use Rattle.arimaa_model.specs.Game.{ending, present}
 use Rattle.arimaa_model.specs.Marks.{marks_of}
-use Rattle.arimaa_step.specs.declared.marking.Marks.TheVariants.{Optional}
+use Rattle.arimaa_step.specs.declared.marks.Marks.TheVariants.{Optional}
 use Rattle.arimaa_step.specs.MarkRules.{marks_fit}
 use Rattle.arimaa_notation.specs.Readers.{setup_of_text, turn_of_text}
 use Rattle.arimaa_record.specs.Label.{label_of, next_label}

@@ -9,19 +9,19 @@ mod ending;
 mod game;
 mod laws;
 mod log;
-mod playing;
+mod play;
 mod programs;
 mod quits;
 mod side_fault;
 mod talk;
 mod text;
-mod thinking;
+mod thought;
 mod umpire;
 
 pub use ending::{MatchCause, MatchDone, MatchEnd};
 pub use laws::told_once;
 pub use log::{Booked, Bookings};
-pub use playing::play_match;
+pub use play::play_match;
 pub use programs::play_programs;
 pub use text::match_text;
 

@@ -12,7 +12,7 @@ ghost use Rattle.arimaa_match.specs.Programs.{HasSpawnerCause, ProgramsWent, mat
 
 use crate::ending::{MatchDone, MatchEnd};
 use crate::log::Bookings;
-use crate::playing::play_match;
+use crate::play::play_match;
 use crate::quits::quit_gold;
 use arimaa_board::Color;
 use arimaa_engine::{EngineFault, Session};

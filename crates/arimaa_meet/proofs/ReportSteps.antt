@@ -3,7 +3,7 @@ use Rattle.std.proofs.Common.{◌≡◌, ◌<◌, ℕ, ◌+◌, zero, suc, List,
 use Rattle.std.specs.List.{AllZip}
 use Rattle.std.proofs.lemmas.List.{length-map, length-take-le, map-append, take_more}
 use Rattle.arimaa_board.specs.declared.piece.Color.TheVariants.{Gold}
-use Rattle.arimaa_judge.specs.declared.judging.Judged.TheVariants.{Lawful}
+use Rattle.arimaa_judge.specs.declared.judgement.Judged.TheVariants.{Lawful}
 use Rattle.arimaa_match.specs.declared.ending.MatchEnd.TheVariants.{Limit}
 use Rattle.arimaa_match.specs.Texts.{text_of_match}
 use Rattle.arimaa_meet.specs.declared.counted.Counted.{Counted}

@@ -2,7 +2,7 @@
 ghost use Rattle.std.specs.Prelude.{◌<◌};
 
 use crate::gate::Gate;
-use crate::waiting::wait_until;
+use crate::wait::wait_until;
 use std::array;
 use std::sync::atomic::{AtomicBool, AtomicU32, Ordering};
 

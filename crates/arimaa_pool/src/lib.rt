@@ -18,7 +18,7 @@ mod shift;
 mod stop;
 mod stopped_job;
 mod verdict;
-mod waiting;
+mod wait;
 
 pub use chain_gate::ChainGate;
 pub use gate::{Gate, NoGate};

@@ -1,6 +1,6 @@
 //! A gate at which two workers meet.
 use crate::gate::Gate;
-use crate::waiting::wait_until;
+use crate::wait::wait_until;
 use std::sync::atomic::{AtomicBool, Ordering};
 
 /// A gate that lets the first two jobs begin together: whoever enters job 0 or job 1 raises a flag

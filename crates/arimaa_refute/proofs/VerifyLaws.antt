@@ -19,10 +19,10 @@ use Rattle.arimaa_refute.specs.declared.verified.Flaw.{Flaw}
 use Rattle.arimaa_refute.specs.declared.verified.Flaw.TheVariants as flaw
 use Rattle.arimaa_refute.specs.declared.verified.Verified.{Verified}
 use Rattle.arimaa_refute.specs.declared.verified.Verified.TheVariants as verified
-use Rattle.arimaa_refute.specs.declared.finding.Look.{Look}
-use Rattle.arimaa_refute.specs.declared.finding.Look.TheVariants as looks
-use Rattle.arimaa_refute.specs.declared.finding.Finding.{Finding}
-use Rattle.arimaa_refute.specs.declared.finding.Finding.TheVariants as finds
+use Rattle.arimaa_refute.specs.declared.look.Look.{Look}
+use Rattle.arimaa_refute.specs.declared.look.Look.TheVariants as looks
+use Rattle.arimaa_refute.specs.declared.look.Finding.{Finding}
+use Rattle.arimaa_refute.specs.declared.look.Finding.TheVariants as finds
 use Rattle.arimaa_refute.specs.Escapes.{entry_of, is_safe, are_safe, is_held, is_root_held, Holds}
 use Rattle.arimaa_refute.specs.Flaws.{positions_of, flaw_by, flaw_after, flaw_of, AreFlawless}
 use Rattle.arimaa_refute.specs.Findings.{look_through, look_by, look_at, finding_of, finding_after, finding_at, answer_or, first_answer, root_look, root_answer, answer_with, verified_of}

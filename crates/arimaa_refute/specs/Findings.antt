@@ -12,10 +12,10 @@ use Rattle.arimaa_refute.specs.declared.escape.Escape.{Escape}
 use Rattle.arimaa_refute.specs.declared.verified.Flaw.TheVariants as flaw
 use Rattle.arimaa_refute.specs.declared.verified.Verified.{Verified}
 use Rattle.arimaa_refute.specs.declared.verified.Verified.TheVariants as verified
-use Rattle.arimaa_refute.specs.declared.finding.Look.{Look}
-use Rattle.arimaa_refute.specs.declared.finding.Look.TheVariants as looks
-use Rattle.arimaa_refute.specs.declared.finding.Finding.{Finding}
-use Rattle.arimaa_refute.specs.declared.finding.Finding.TheVariants as finds
+use Rattle.arimaa_refute.specs.declared.look.Look.{Look}
+use Rattle.arimaa_refute.specs.declared.look.Look.TheVariants as looks
+use Rattle.arimaa_refute.specs.declared.look.Finding.{Finding}
+use Rattle.arimaa_refute.specs.declared.look.Finding.TheVariants as finds
 use Rattle.arimaa_refute.specs.Escapes.{entry_of, is_safe}
 use Rattle.arimaa_refute.specs.Flaws.{positions_of}
 

@@ -11,11 +11,11 @@ mod escapes;
 mod evasion;
 mod failure;
 mod fault;
-mod finding;
 mod laws;
-mod making;
-mod meeting;
+mod look;
+mod maker;
 mod place;
+mod queue;
 mod reader;
 mod refutation;
 #[cfg(test)]

@@ -5,10 +5,10 @@ ghost use Rattle.arimaa_region.specs.Placing.{IsPlaced};
 ghost use Rattle.arimaa_region.specs.Segments.{below_top, live_of, lowest, segment_of};
 
 use crate::bucket::{bucket, buckets_for};
-use crate::finding::find;
 use crate::index::Index;
 use crate::key::Key;
 use crate::placed::Placed;
+use crate::probe::find;
 use std::alloc::{AllocError, Global};
 use std::marker::Model;
 

@@ -15,7 +15,7 @@ use Rattle.arimaa_model.specs.Moves.{target, enters, after, is_single}
 use Rattle.arimaa_model.specs.Results.{step_of}
 use Rattle.arimaa_step.specs.declared.state.TurnState.{TurnState}
 use Rattle.arimaa_step.specs.declared.accepted.AcceptedSteps.{AcceptedSteps}
-use Rattle.arimaa_step.specs.declared.commuting.EarlierSteps.{EarlierSteps}
+use Rattle.arimaa_step.specs.declared.earlier_steps.EarlierSteps.{EarlierSteps}
 use Rattle.arimaa_step.specs.Accepted.{accepts, ends_by, mask_towards}
 use Rattle.arimaa_step.specs.Next.{next_state, next_answer, goes_alone, state_end}
 

@@ -26,10 +26,10 @@ use Rattle.arimaa_strategy.specs.declared.checked.Why.{Why}
 use Rattle.arimaa_strategy.specs.declared.checked.Why.TheVariants as why
 use Rattle.arimaa_strategy.specs.declared.checked.Checked.{Checked}
 use Rattle.arimaa_strategy.specs.declared.checked.Checked.TheVariants as checked
-use Rattle.arimaa_strategy.specs.declared.finding.Look.{Look}
-use Rattle.arimaa_strategy.specs.declared.finding.Look.TheVariants as looks
-use Rattle.arimaa_strategy.specs.declared.finding.Finding.{Finding}
-use Rattle.arimaa_strategy.specs.declared.finding.Finding.TheVariants as finds
+use Rattle.arimaa_strategy.specs.declared.look.Look.{Look}
+use Rattle.arimaa_strategy.specs.declared.look.Look.TheVariants as looks
+use Rattle.arimaa_strategy.specs.declared.look.Finding.{Finding}
+use Rattle.arimaa_strategy.specs.declared.look.Finding.TheVariants as finds
 use Rattle.arimaa_strategy.specs.Entries.{plan_of}
 use Rattle.arimaa_strategy.specs.Faults.{led_to, rank_fault, fault_by, fault_after, fault_of, root_fault, AreFaultless}
 use Rattle.arimaa_strategy.specs.Findings.{look_of, look_by, look_at, replies_rank, covered_rank, finding_of, finding_after, finding_at, answer_or, first_answer, root_look, root_answer, answer_with, checked_of}

@@ -13,8 +13,8 @@ use Rattle.arimaa_model.specs.Results.{next}
 use Rattle.arimaa_model.specs.Ranks.{above}
 use Rattle.arimaa_model.specs.Strategies.{Planned, find_entry}
 use Rattle.arimaa_forced.specs.Acceptance.{is_win_of, rank_in, s_rank, q_rank, covered_for, is_covered, answered_for, is_answered}
-use Rattle.arimaa_strategy.specs.declared.finding.Look.{Look}
-use Rattle.arimaa_strategy.specs.declared.finding.Look.TheVariants as looks
+use Rattle.arimaa_strategy.specs.declared.look.Look.{Look}
+use Rattle.arimaa_strategy.specs.declared.look.Look.TheVariants as looks
 use Rattle.arimaa_strategy.specs.Findings.{covered_by, covered_rank, raised, replies_rank, look_of, look_by, look_at}
 
 won_zero : (w : Bool) (r : ℕ) → cond w (Some 0) None ≡ cond w (Some (cond w 0 r)) None

@@ -12,10 +12,10 @@ use Rattle.arimaa_forced.specs.declared.entry.Entry.{Entry}
 use Rattle.arimaa_strategy.specs.declared.checked.Why.TheVariants as why
 use Rattle.arimaa_strategy.specs.declared.checked.Checked.{Checked}
 use Rattle.arimaa_strategy.specs.declared.checked.Checked.TheVariants as checked
-use Rattle.arimaa_strategy.specs.declared.finding.Look.{Look}
-use Rattle.arimaa_strategy.specs.declared.finding.Look.TheVariants as looks
-use Rattle.arimaa_strategy.specs.declared.finding.Finding.{Finding}
-use Rattle.arimaa_strategy.specs.declared.finding.Finding.TheVariants as finds
+use Rattle.arimaa_strategy.specs.declared.look.Look.{Look}
+use Rattle.arimaa_strategy.specs.declared.look.Look.TheVariants as looks
+use Rattle.arimaa_strategy.specs.declared.look.Finding.{Finding}
+use Rattle.arimaa_strategy.specs.declared.look.Finding.TheVariants as finds
 use Rattle.arimaa_strategy.specs.Entries.{plan_of}
 use Rattle.arimaa_strategy.specs.Faults.{led_to}
 

@@ -13,7 +13,7 @@ ghost use Rattle.arimaa_strategy.specs.Findings.{covered_rank, replies_rank, IfR
 ghost use Rattle.arimaa_strategy.specs.Findings.{first_answer, root_look, root_answer, checked_of};
 
 use crate::checked::{Checked, Why};
-use crate::finding::{Finding, Look};
+use crate::look::{Finding, Look};
 use crate::strategy::Strategy;
 use arimaa_board::{Color, Position, Square};
 use arimaa_forced::Entry;

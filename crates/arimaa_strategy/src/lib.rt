@@ -5,7 +5,7 @@ mod checked;
 mod checker;
 mod entry_line;
 mod fault;
-mod finding;
+mod look;
 mod reader;
 mod strategy;
 #[cfg(test)]

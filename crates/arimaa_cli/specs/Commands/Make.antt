@@ -4,7 +4,7 @@ use Rattle.std.specs.Fmt.{decimal}
 use Rattle.arimaa_board.specs.declared.position.Position.{Position}
 use Rattle.arimaa_board.specs.declared.position.Step.{Step}
 use Rattle.arimaa_forced.specs.Entries.{steps_with_marks}
-use Rattle.arimaa_judge.specs.declared.judging.Judged.TheVariants as judgement
+use Rattle.arimaa_judge.specs.declared.judgement.Judged.TheVariants as judgement
 use Rattle.arimaa_judge.specs.declared.rule.Rule.{Rule}
 use Rattle.arimaa_judge.specs.Judged.{IsJudged}
 use Rattle.arimaa_judge.specs.Texts.{line, state_line, text_of_bad}

@@ -1,0 +1,19 @@
+use Rattle.std.proofs.Common.{◌≡◌, ◌<◌, length, false, is_some, sym, ◌∙◌, ap, arith}
+use Rattle.arimaa_model.specs.Decided.{decided}
+use Rattle.arimaa_model.specs.Results.{next}
+use Rattle.arimaa_region.specs.Segments.{live_of}
+use Rattle.arimaa_refute.specs.Refutations.{Terms}
+use Rattle.arimaa_refute.proofs.FlawLaws.{is_none}
+use Rattle.arimaa_refute.proofs.Levels.{long-crowd}
+use Rattle.arimaa_refute.proofs.queue.meet_replies.Goals as goal
+
+pub returns-in-Err-clause-failure : goal.returns-in-Err-clause-failure
+returns-in-Err-clause-failure c =
+    let t : Terms = c.args.asker.now in
+    let none : is_some (decided c.args.r.now) ≡ false = ap is_some (sym c.decided.ensures) ∙ (sym c.is_some.ensures ∙ c.if-is_some.false) in
+    let list = ap (λ qs. length (next qs c.args.r.now)) c.barred.ensures in
+    let empty = ap (λ s. length (live_of s)) c.requires.empty in
+    let full = c.in-Err.ensures.full in
+    let room = c.requires.room in
+    let long : t.room < length (next t.barred c.args.r.now) = omega arith in
+    (c.requires.below, long-crowd t c.args.turns c.args.r.now (is_none (decided c.args.r.now) none) c.requires.some long)
