@@ -3,7 +3,7 @@ ghost use Rattle.std.specs.Prelude.{◌≡◌, ◌+◌, ◌<◌, ◌∷◌, leng
 ghost use Rattle.arimaa_model.specs.Results.{next};
 ghost use Rattle.arimaa_region.specs.Segments.{live_of};
 
-use crate::layered::layered;
+use crate::layer_lists::layered;
 use crate::stop::LayerFull;
 use crate::turn_walk::{Full, walked};
 use arimaa_board::Position;

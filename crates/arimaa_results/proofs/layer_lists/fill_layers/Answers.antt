@@ -1,0 +1,92 @@
+use Rattle.std.proofs.Common.{◌≡◌, ℕ, List, [], ◌++◌, length, Err, refl, sym, ◌∙◌, ap, subst, arith}
+use Rattle.std.specs.Prelude.{is_ok}
+use Rattle.std.proofs.lemmas.Result.{err_from_is_err_and}
+use Rattle.arimaa_board.specs.declared.position.Position.{Position}
+use Rattle.arimaa_region.specs.Same.{same_position}
+use Rattle.arimaa_region.specs.Segments.{live_of}
+use Rattle.arimaa_results.specs.Adding.{IsFilled}
+use Rattle.arimaa_results.specs.Layering.{brought_from}
+use Rattle.arimaa_results.specs.Stopped.{is_room, is_work}
+use Rattle.arimaa_results.proofs.Adding.{leads_start, leads_ok, leads_err, leads_stop, leads_end, added_err}
+use Rattle.arimaa_results.proofs.Layers.{layers_to-zero, live-more}
+use Rattle.arimaa_results.proofs.layer_lists.fill_layers.Goals as goal
+
+pub next_layer-requires-clause-first : goal.next_layer-requires-clause-first
+next_layer-requires-clause-first c = sym (ap (λ s. length (live_of s)) (layers_to-zero c.args.p.now))
+
+pub returns-in_err-first_layer-clause-filled : goal.returns-in_err-first_layer-clause-filled
+returns-in_err-first_layer-clause-filled c =
+    let p = c.args.p.now in
+    let a = c.args.region.now in
+    let X : ℕ → List Position = brought_from c.args.barred.now p in
+    let whole : List Position = X 0 ++ (X 1 ++ (X 2 ++ (X 3 ++ []))) in
+    let lead0 = leads_start same_position a.room a.segments {left = whole} refl in
+    let raised = err_from_is_err_and c.from_residual.result c.from_residual.ensures.1 in
+    let same : c.first_layer.result ≡ c.from_residual.result = c.in_err-first_layer.was ∙ (sym (ap Err raised.2) ∙ sym raised.1) in
+    subst (λ o. IsFilled a c.first_layer.new.region (is_ok o) (is_room o) whole) same
+    (leads_err same_position (X 0) (X 1 ++ (X 2 ++ (X 3 ++ []))) refl lead0 (ap is_ok c.in_err-first_layer.was) c.first_layer.ensures.filled)
+
+pub returns-in_err-first_layer-clause-work : goal.returns-in_err-first_layer-clause-work
+returns-in_err-first_layer-clause-work c =
+    let p = c.args.p.now in
+    let raised = err_from_is_err_and c.from_residual.result c.from_residual.ensures.1 in
+    let same : c.first_layer.result ≡ c.from_residual.result = c.in_err-first_layer.was ∙ (sym (ap Err raised.2) ∙ sym raised.1) in
+    λ e. let many = c.first_layer.ensures.work (ap is_work same ∙ e) in omega (arith, many, live-more p 1, live-more p 2)
+
+pub returns-in_err-next_layer-clause-filled : goal.returns-in_err-next_layer-clause-filled
+returns-in_err-next_layer-clause-filled c =
+    let p = c.args.p.now in
+    let a = c.args.region.now in
+    let X : ℕ → List Position = brought_from c.args.barred.now p in
+    let whole : List Position = X 0 ++ (X 1 ++ (X 2 ++ (X 3 ++ []))) in
+    let lead0 = leads_start same_position a.room a.segments {left = whole} refl in
+    let lead1 = leads_ok same_position (X 0) (X 1 ++ (X 2 ++ (X 3 ++ []))) refl lead0 (ap is_ok c.in_ok-first_layer.was) c.first_layer.ensures.filled in
+    let raised = err_from_is_err_and c.from_residual-in_err-next_layer.result c.from_residual-in_err-next_layer.ensures.1 in
+    let same : c.next_layer.result ≡ c.from_residual-in_err-next_layer.result = c.in_err-next_layer.was ∙ (sym (ap Err raised.2) ∙ sym raised.1) in
+    subst (λ o. IsFilled a c.next_layer.new.region (is_ok o) (is_room o) whole) same
+    (leads_err same_position (X 1) (X 2 ++ (X 3 ++ [])) refl lead1 (ap is_ok c.in_err-next_layer.was) c.next_layer.ensures.filled)
+
+pub returns-in_err-next_layer-clause-work : goal.returns-in_err-next_layer-clause-work
+returns-in_err-next_layer-clause-work c =
+    let p = c.args.p.now in
+    let raised = err_from_is_err_and c.from_residual-in_err-next_layer.result c.from_residual-in_err-next_layer.ensures.1 in
+    let same : c.next_layer.result ≡ c.from_residual-in_err-next_layer.result = c.in_err-next_layer.was ∙ (sym (ap Err raised.2) ∙ sym raised.1) in
+    λ e. let many = c.next_layer.ensures.work (ap is_work same ∙ e) in omega (arith, many, c.first_layer.ensures.room, live-more p 2)
+
+pub returns-in_err-next_layer-2-clause-filled : goal.returns-in_err-next_layer-2-clause-filled
+returns-in_err-next_layer-2-clause-filled c =
+    let p = c.args.p.now in
+    let a = c.args.region.now in
+    let X : ℕ → List Position = brought_from c.args.barred.now p in
+    let whole : List Position = X 0 ++ (X 1 ++ (X 2 ++ (X 3 ++ []))) in
+    let lead0 = leads_start same_position a.room a.segments {left = whole} refl in
+    let lead1 = leads_ok same_position (X 0) (X 1 ++ (X 2 ++ (X 3 ++ []))) refl lead0 (ap is_ok c.in_ok-first_layer.was) c.first_layer.ensures.filled in
+    let lead2 = leads_ok same_position (X 1) (X 2 ++ (X 3 ++ [])) refl lead1 (ap is_ok c.in_ok-next_layer.was) c.next_layer.ensures.filled in
+    let raised = err_from_is_err_and c.from_residual-in_err-next_layer-2.result c.from_residual-in_err-next_layer-2.ensures.1 in
+    let same : c.next_layer-2.result ≡ c.from_residual-in_err-next_layer-2.result = c.in_err-next_layer-2.was ∙ (sym (ap Err raised.2) ∙ sym raised.1) in
+    subst (λ o. IsFilled a c.next_layer-2.new.region (is_ok o) (is_room o) whole) same
+    (leads_err same_position (X 2) (X 3 ++ []) refl lead2 (ap is_ok c.in_err-next_layer-2.was) c.next_layer-2.ensures.filled)
+
+pub returns-in-Ok-clause-filled : goal.returns-in-Ok-clause-filled
+returns-in-Ok-clause-filled c =
+    let p = c.args.p.now in
+    let a = c.args.region.now in
+    let X : ℕ → List Position = brought_from c.args.barred.now p in
+    let whole : List Position = X 0 ++ (X 1 ++ (X 2 ++ (X 3 ++ []))) in
+    let lead0 = leads_start same_position a.room a.segments {left = whole} refl in
+    let lead1 = leads_ok same_position (X 0) (X 1 ++ (X 2 ++ (X 3 ++ []))) refl lead0 (ap is_ok c.in_ok-first_layer.was) c.first_layer.ensures.filled in
+    let lead2 = leads_ok same_position (X 1) (X 2 ++ (X 3 ++ [])) refl lead1 (ap is_ok c.in_ok-next_layer.was) c.next_layer.ensures.filled in
+    let lead3 = leads_ok same_position (X 2) (X 3 ++ []) refl lead2 (ap is_ok c.in_ok-next_layer-2.was) c.next_layer-2.ensures.filled in
+    leads_end same_position refl (leads_ok same_position (X 3) [] refl lead3 (ap is_ok c.in-Ok.is) c.last_steps.ensures.filled)
+
+pub returns-in-Err-clause-filled : goal.returns-in-Err-clause-filled
+returns-in-Err-clause-filled c =
+    let p = c.args.p.now in
+    let a = c.args.region.now in
+    let X : ℕ → List Position = brought_from c.args.barred.now p in
+    let whole : List Position = X 0 ++ (X 1 ++ (X 2 ++ (X 3 ++ []))) in
+    let lead0 = leads_start same_position a.room a.segments {left = whole} refl in
+    let lead1 = leads_ok same_position (X 0) (X 1 ++ (X 2 ++ (X 3 ++ []))) refl lead0 (ap is_ok c.in_ok-first_layer.was) c.first_layer.ensures.filled in
+    let lead2 = leads_ok same_position (X 1) (X 2 ++ (X 3 ++ [])) refl lead1 (ap is_ok c.in_ok-next_layer.was) c.next_layer.ensures.filled in
+    let lead3 = leads_ok same_position (X 2) (X 3 ++ []) refl lead2 (ap is_ok c.in_ok-next_layer-2.was) c.next_layer-2.ensures.filled in
+    leads_stop same_position (X 3) [] refl lead3 (added_err same_position c.last_steps.result _ c.in-Err.is c.last_steps.ensures.filled)
