@@ -1,6 +1,7 @@
--- The last steps in order: what they bring about is, in its first occurrences, what all last steps do.
+-- Steps in order after those of kept states: what is placed is, in its first occurrences, what all of them give.
 use Rattle.std.proofs.Common.{◌≡◌, ℕ, suc, ◌<◌, List, [], ◌∷◌, ◌++◌, map, length, Bool, true, false, cond, inl, inr, ⊎_elim, Result, Err, refl, sym, ◌∙◌, ap, subst, arith, append_assoc, append-nil, true≢false}
 use Rattle.std.specs.Prelude.{is_ok}
+use Rattle.std.specs.Bool.{Decides}
 use Rattle.std.specs.List.{flat_map, list_any}
 use Rattle.std.proofs.lemmas.Bool.{false_from_ne_true}
 use Rattle.arimaa_board.specs.declared.position.Position.{Position}
@@ -9,27 +10,24 @@ use Rattle.arimaa_board.specs.Board.{settle}
 use Rattle.arimaa_model.specs.Backward.{after_back}
 use Rattle.arimaa_model.specs.declared.fault.TurnFault.{TurnFault}
 use Rattle.arimaa_model.specs.Plain.{candidates}
-use Rattle.arimaa_model.specs.Results.{same_position}
-use Rattle.arimaa_model.proofs.Lists.{flat_map-append, flat_map-agree, flat_map-flat_map}
+use Rattle.arimaa_model.proofs.Lists.{flat_map-append}
 use Rattle.arimaa_model.proofs.Members.{In, In-append, In-left, In-right, any-In, flat_map-In, In-flat_map}
-use Rattle.arimaa_model.proofs.Positions.{same_position-Decides}
 use Rattle.arimaa_model.proofs.Pushers.{after_settled}
 use Rattle.arimaa_region.specs.Same.{same_words, same_words-Decides, firsts, with_new}
 use Rattle.arimaa_step.specs.declared.state.TurnState.{TurnState}
-use Rattle.arimaa_step.specs.Next.{next_answer, next_state, state_end}
+use Rattle.arimaa_step.specs.Next.{next_answer, next_state}
 use Rattle.arimaa_step.specs.State.{state_of}
 use Rattle.arimaa_step.specs.StateWords.{state_planes, state_in_planes}
-use Rattle.arimaa_step.proofs.LeavingOut.{AreLess, less_none, left_out}
+use Rattle.arimaa_step.proofs.LeavingOut.{IsLess, AreLess, less_none, left_out}
 use Rattle.arimaa_step.proofs.StepOrder.{Rising, candidates-rising, stands_before}
-use Rattle.arimaa_step.proofs.FourthSteps.{ends, after_pair, after_fewer, fourth_less, with_steps, all_pairs}
-use Rattle.arimaa_results.specs.Ahead.{states_by, next_states, given_by, brings_now, brings}
+use Rattle.arimaa_step.proofs.FourthSteps.{with_steps, all_pairs}
+use Rattle.arimaa_results.specs.Ahead.{states_by, next_states}
 use Rattle.arimaa_results.specs.LastSteps.{is_next, left_after, brings_first, left_of_kept, brings_last}
-use Rattle.arimaa_results.specs.Layering.{keeps, planes_after, layer, brought_from}
+use Rattle.arimaa_results.specs.Layering.{keeps, planes_after, layer}
 use Rattle.arimaa_results.specs.NextStates.{pairs_by, next_pairs}
 use Rattle.arimaa_results.proofs.Beginning.{grows_fits}
-use Rattle.arimaa_results.proofs.Bringing.{brings-suc, brings-zero}
-use Rattle.arimaa_results.proofs.Keeping.{with_new-there, with_new-old, with_new-new, In-firsts, one_layer}
-use Rattle.arimaa_results.proofs.Layers.{IsOf, In-next, In-next-grows, layer-of, layer-suc, decoded, decoded-of, opens}
+use Rattle.arimaa_results.proofs.Keeping.{with_new-there, with_new-old, with_new-new, In-firsts}
+use Rattle.arimaa_results.proofs.Layers.{IsOf, In-next, In-next-grows, layer-of, layer-suc, decoded, decoded-of}
 use Rattle.arimaa_results.proofs.News.{news, firsts-news, new-absent}
 use Rattle.arimaa_results.proofs.StatePairs.{pairs_by-is, states_by-is}
 
@@ -57,22 +55,24 @@ after_other : (kept : List (List ℕ)) (st : TurnState) → is_next kept st ≡ 
 after_other [] st other = refl
 after_other (v ∷ kept) st other = ap (λ b. cond b kept (v ∷ kept)) other
 
-module _ (barred : List Position) where
-  abbrev G : Result Position TurnFault → List Position
-  G end = given_by barred end
+abbrev nothing : Result Position TurnFault → List Position
+nothing end = []
 
-  pub none : (e : TurnFault) → G (Err e) ≡ []
-  none e = refl
+none : (e : TurnFault) → nothing (Err e) ≡ []
+none e = refl
 
-  abbrev Full : Made → List Position
-  Full u = after_pair G none u
+-- all: what a state gives by one more step; some: what is placed for a step of a state
+module _ {R : Type 0} (all : TurnState → List R) (some : TurnState → Step → List R) where
+  abbrev pub Full : Made → List R
+  Full u = all (state_made u)
 
-  abbrev Fewer : Made → List Position
-  Fewer u = after_fewer G none u
-
-  abbrev pub placed : List (List ℕ) → List Made → List Position
+  abbrev pub placed : List (List ℕ) → List Made → List R
   placed kept [] = []
-  placed kept (u ∷ us) = cond (is_next kept (state_made u)) (Fewer u) [] ++ placed (left_after kept (state_made u)) us
+  placed kept (u ∷ us) = cond (is_next kept (state_made u)) (some u.0 u.1) [] ++ placed (left_after kept (state_made u)) us
+
+  -- what is placed for a step is what all steps after it give, less what those give that come earlier
+  abbrev pub IsLessEach : Type 0
+  IsLessEach = (st : TurnState) (s : Step) (before : List Made) → settle st.board ≡ st.board → st.count < 3 → ((t : Step) → In t (candidates st.board) → is_ok (next_answer st t) ≡ true → t.from < s.from → In (st, t) before) → IsLess (flat_map Full before) (Full (st, s)) (some st s)
 
   module _ (p : Position) where
     abbrev Decodes : Made → Type 0
@@ -103,12 +103,12 @@ module _ (barred : List Position) where
         (In-append w seen (words u ∷ []) i)
 
     -- what is placed is what all steps give, less what stands before
-    less : (before us : List Made) (seen : List (List ℕ)) → AreMade before us → AreSeen before seen → AreLess Full before us (placed (news_of seen (map words us)) us)
-    less before [] seen made from = refl
-    less before (u ∷ us) seen made from =
+    less : IsLessEach → (before us : List Made) (seen : List (List ℕ)) → AreMade before us → AreSeen before seen → AreLess Full before us (placed (news_of seen (map words us)) us)
+    less each before [] seen made from = refl
+    less each before (u ∷ us) seen made from =
         by_test (list_any (same_words (words u)) seen) refl
-        (less (before ++ u ∷ []) us seen made.1 (seen_more before u seen from))
-        (less (before ++ u ∷ []) us (seen ++ words u ∷ []) made.1 (seen_new before u seen made.0.decodes from)) where
+        (less each (before ++ u ∷ []) us seen made.1 (seen_more before u seen from))
+        (less each (before ++ u ∷ []) us (seen ++ words u ∷ []) made.1 (seen_new before u seen made.0.decodes from)) where
           S : TurnState
           S = state_made u
 
@@ -123,19 +123,19 @@ module _ (barred : List Position) where
               → AreLess Full (before ++ u ∷ []) us (placed tail us)
               → AreLess Full before (u ∷ us) (placed (cond (list_any (same_words (words u)) seen) (news_of seen ws) (words u ∷ tail)) (u ∷ us))
           by_test true found rest _ =
-              let some = any-In (same_words (words u)) seen found in
-              let there : In (words u) seen = subst (λ (w : List ℕ). In w seen) (sym ((same_words-Decides (words u) some.0).0 some.2)) some.1 in
+              let one_seen = any-In (same_words (words u)) seen found in
+              let there : In (words u) seen = subst (λ (w : List ℕ). In w seen) (sym ((same_words-Decides (words u) one_seen.0).0 one_seen.2)) one_seen.1 in
               let old = from (words u) there in
               let one : state_made u ≡ state_made old.0 = sym made.0.decodes ∙ (ap (state_in_planes p) old.2 ∙ old.3) in
               let other : is_next (news_of seen ws) S ≡ false = old_not_next seen (news_of seen ws) S (λ w i. new-absent same_words same_words-Decides seen ws w i) there in
-              let known : (y : Position) → In y (Full u) → In y (flat_map Full before) = λ y j.
-              flat_map-In Full y old.0 before old.1 (subst (λ st. In y (flat_map (ends G none st) (candidates st.board))) one j) in
+              let known : (y : R) → In y (Full u) → In y (flat_map Full before) = λ y j.
+              flat_map-In Full y old.0 before old.1 (subst (λ st. In y (all st)) one j) in
               subst (λ v. AreLess Full before (u ∷ us) (placed (cond v (news_of seen ws) (words u ∷ tail)) (u ∷ us))) (sym found)
-              ([], placed (news_of seen ws) us, (λ i. cond (other i) (Fewer u) [] ++ placed (after_other (news_of seen ws) S other i) us), less_none (flat_map Full before) (Full u) known, rest)
+              ([], placed (news_of seen ws) us, (λ i. cond (other i) (some u.0 u.1) [] ++ placed (after_other (news_of seen ws) S other i) us), less_none (flat_map Full before) (Full u) known, rest)
           by_test false absent _ rest =
               let same : same_words (words u) (words u) ≡ true = (same_words-Decides (words u) (words u)).1 refl in
               subst (λ v. AreLess Full before (u ∷ us) (placed (cond v (news_of seen ws) (words u ∷ tail)) (u ∷ us))) (sym absent)
-              (Fewer u, placed tail us, (λ i. cond (same i) (Fewer u) [] ++ placed (cond (same i) tail (words u ∷ tail)) us), fourth_less G none u.0 u.1 before made.0.calm made.0.few made.0.earlier, rest)
+              (some u.0 u.1, placed tail us, (λ i. cond (same i) (some u.0 u.1) [] ++ placed (cond (same i) tail (words u ∷ tail)) us), each u.0 u.1 before made.0.calm made.0.few made.0.earlier, rest)
 
     -- ---- every state with each of its steps
 
@@ -149,20 +149,20 @@ module _ (barred : List Position) where
     AreAllCalm (st ∷ sts) = IsCalm st × AreAllCalm sts
 
     module _ (st : TurnState) (is : IsCalm st) (others : List Made) where
-      steps_made : (before : List Made) (done ts : List Step) → done ++ ts ≡ candidates st.board → ((t : Step) → In t done → is_ok (next_answer st t) ≡ true → In (st, t) before) → AreMade (before ++ with_steps G none st ts) others → AreMade before (with_steps G none st ts ++ others)
-      steps_made before done [] all made rest = subst (λ l. AreMade l others) (append-nil before) rest
-      steps_made before done (s ∷ ts) all made rest = by_answer (is_ok (next_answer st s)) refl rest (λ then new left. steps_made then (done ++ s ∷ []) ts more new left) where
+      steps_made : (before : List Made) (done ts : List Step) → done ++ ts ≡ candidates st.board → ((t : Step) → In t done → is_ok (next_answer st t) ≡ true → In (st, t) before) → AreMade (before ++ with_steps nothing none st ts) others → AreMade before (with_steps nothing none st ts ++ others)
+      steps_made before done [] whole made rest = subst (λ l. AreMade l others) (append-nil before) rest
+      steps_made before done (s ∷ ts) whole made rest = by_answer (is_ok (next_answer st s)) refl rest (λ then new left. steps_made then (done ++ s ∷ []) ts more new left) where
         X : List Made
-        X = with_steps G none st ts
+        X = with_steps nothing none st ts
 
         more : (done ++ s ∷ []) ++ ts ≡ candidates st.board
-        more = append_assoc done (s ∷ []) ts ∙ all
+        more = append_assoc done (s ∷ []) ts ∙ whole
 
         here : In s (candidates st.board)
-        here = subst (λ l. In s l) all (In-right s done (s ∷ ts) (inl refl))
+        here = subst (λ l. In s l) whole (In-right s done (s ∷ ts) (inl refl))
 
         earlier : (t : Step) → In t (candidates st.board) → is_ok (next_answer st t) ≡ true → t.from < s.from → In (st, t) before
-        earlier t i ok low = made t (stands_before done ts s t (subst Rising (sym all) (candidates-rising st.board)) (subst (λ l. In t l) (sym all) i) low) ok
+        earlier t i ok low = made t (stands_before done ts s t (subst Rising (sym whole) (candidates-rising st.board)) (subst (λ l. In t l) (sym whole) i) low) ok
 
         by_answer : (v : Bool) → is_ok (next_answer st s) ≡ v → AreMade (before ++ cond v ((st, s) ∷ X) X) others
             → ((then : List Made) → ((t : Step) → In t (done ++ s ∷ []) → is_ok (next_answer st t) ≡ true → In (st, t) then) → AreMade (then ++ X) others → AreMade then (X ++ others))
@@ -183,57 +183,43 @@ module _ (barred : List Position) where
             (In-append t done (s ∷ []) i) in
             go before new rest
 
-    all_made : (before : List Made) (sts : List TurnState) → AreAllCalm sts → AreMade before (all_pairs G none sts)
+    all_made : (before : List Made) (sts : List TurnState) → AreAllCalm sts → AreMade before (all_pairs nothing none sts)
     all_made before [] are = tt
     all_made before (st ∷ sts) are =
-        steps_made st are.0 (all_pairs G none sts) before [] (candidates st.board) refl (λ t i ok. absurd i) (all_made (before ++ with_steps G none st (candidates st.board)) sts are.1)
+        steps_made st are.0 (all_pairs nothing none sts) before [] (candidates st.board) refl (λ t i ok. absurd i) (all_made (before ++ with_steps nothing none st (candidates st.board)) sts are.1)
 
   -- ---- the same by the lists of states and pairs
 
   abbrev A : TurnState → Step → Bool
   A st s = is_ok (next_answer st s)
 
-  -- what a state brings about by its last steps
-  full_brings : (st : TurnState) → flat_map (ends G none st) (candidates st.board) ≡ brings barred 1 st
-  unfolding next_states brings_now
-  full_brings st =
-      sym (brings-suc barred 0 st
-      ∙ (flat_map-flat_map (brings barred 0) (states_by st) (candidates st.board)
-      ∙ flat_map-agree (λ t. flat_map (brings barred 0) (states_by st t)) (ends G none st) (candidates st.board) each)) where
-        each : (t : Step) → flat_map (brings barred 0) (states_by st t) ≡ ends G none st t
-        each t =
-            ap (flat_map (brings barred 0)) (states_by-is st t)
-            ∙ elim (A st t) as (λ v. flat_map (brings barred 0) (cond v (next_state st t ∷ []) []) ≡ cond v (G (state_end (next_state st t))) []) [
-              | true ↦ append-nil (brings barred 0 (next_state st t)) ∙ brings-zero barred (next_state st t)
-              | false ↦ refl
-            ]
-
-  steps_bring : (st : TurnState) (ts : List Step) → flat_map Full (with_steps G none st ts) ≡ flat_map (brings barred 1) (flat_map (states_by st) ts)
+  -- what the states give that some steps make
+  steps_bring : (st : TurnState) (ts : List Step) → flat_map Full (with_steps nothing none st ts) ≡ flat_map all (flat_map (states_by st) ts)
   steps_bring st [] = refl
   steps_bring st (s ∷ ts) =
       by_answer (A st s) (steps_bring st ts)
-      ∙ (sym (flat_map-append (brings barred 1) (cond (A st s) (next_state st s ∷ []) []) (flat_map (states_by st) ts))
-      ∙ ap (λ l. flat_map (brings barred 1) (l ++ flat_map (states_by st) ts)) (sym (states_by-is st s))) where
+      ∙ (sym (flat_map-append all (cond (A st s) (next_state st s ∷ []) []) (flat_map (states_by st) ts))
+      ∙ ap (λ l. flat_map all (l ++ flat_map (states_by st) ts)) (sym (states_by-is st s))) where
         X : List Made
-        X = with_steps G none st ts
+        X = with_steps nothing none st ts
 
-        by_answer : (v : Bool) → flat_map Full X ≡ flat_map (brings barred 1) (flat_map (states_by st) ts) → flat_map Full (cond v ((st, s) ∷ X) X) ≡ flat_map (brings barred 1) (cond v (next_state st s ∷ []) []) ++ flat_map (brings barred 1) (flat_map (states_by st) ts)
-        by_answer true e = λ i. (full_brings (next_state st s) ∙ sym (append-nil (brings barred 1 (next_state st s)))) i ++ e i
+        by_answer : (v : Bool) → flat_map Full X ≡ flat_map all (flat_map (states_by st) ts) → flat_map Full (cond v ((st, s) ∷ X) X) ≡ flat_map all (cond v (next_state st s ∷ []) []) ++ flat_map all (flat_map (states_by st) ts)
+        by_answer true e = λ i. (sym (append-nil (all (next_state st s)))) i ++ e i
         by_answer false e = e
 
   module _ (p : Position) where
     abbrev D : List ℕ → TurnState
     D w = state_in_planes p w
 
-    pairs_bring : (ws : List (List ℕ)) → flat_map Full (all_pairs G none (map D ws)) ≡ flat_map (λ w. brings barred 2 (D w)) ws
+    pairs_bring : (ws : List (List ℕ)) → flat_map Full (all_pairs nothing none (map D ws)) ≡ flat_map (λ w. flat_map all (next_states (D w))) ws
     unfolding next_states
     pairs_bring [] = refl
     pairs_bring (w ∷ ws) =
-        flat_map-append Full (with_steps G none (D w) (candidates (D w).board)) (all_pairs G none (map D ws))
-        ∙ (λ i. (steps_bring (D w) (candidates (D w).board) ∙ sym (brings-suc barred 1 (D w))) i ++ pairs_bring ws i)
+        flat_map-append Full (with_steps nothing none (D w) (candidates (D w).board)) (all_pairs nothing none (map D ws))
+        ∙ (λ i. steps_bring (D w) (candidates (D w).board) i ++ pairs_bring ws i)
 
     -- what is placed for the steps of one state, and then for others
-    steps_placed : (st : TurnState) (ts : List Step) (kept : List (List ℕ)) (us : List Made) → placed kept (with_steps G none st ts ++ us) ≡ brings_first barred st kept (flat_map (pairs_by st) ts) ++ placed (left_of_kept kept (flat_map (pairs_by st) ts)) us
+    steps_placed : (st : TurnState) (ts : List Step) (kept : List (List ℕ)) (us : List Made) → placed kept (with_steps nothing none st ts ++ us) ≡ brings_first some st kept (flat_map (pairs_by st) ts) ++ placed (left_of_kept kept (flat_map (pairs_by st) ts)) us
     unfolding brings_first left_of_kept
     steps_placed st [] kept us = refl
     steps_placed st (s ∷ ts) kept us =
@@ -246,56 +232,56 @@ module _ (barred : List Position) where
           rest = flat_map (pairs_by st) ts
 
           X : List Made
-          X = with_steps G none st ts
+          X = with_steps nothing none st ts
 
-          both : List (Step × TurnState) → List Position
-          both first = brings_first barred st kept (first ++ rest) ++ placed (left_of_kept kept (first ++ rest)) us
+          both : List (Step × TurnState) → List R
+          both first = brings_first some st kept (first ++ rest) ++ placed (left_of_kept kept (first ++ rest)) us
 
-          by_answer : (v : Bool) → placed kept (X ++ us) ≡ brings_first barred st kept rest ++ placed (left_of_kept kept rest) us
-              → placed (left_after kept S) (X ++ us) ≡ brings_first barred st (left_after kept S) rest ++ placed (left_of_kept (left_after kept S) rest) us
+          by_answer : (v : Bool) → placed kept (X ++ us) ≡ brings_first some st kept rest ++ placed (left_of_kept kept rest) us
+              → placed (left_after kept S) (X ++ us) ≡ brings_first some st (left_after kept S) rest ++ placed (left_of_kept (left_after kept S) rest) us
               → placed kept (cond v ((st, s) ∷ X) X ++ us) ≡ both (cond v ((s, S) ∷ []) [])
           by_answer true _ e =
-              ap (λ l. cond (is_next kept S) (Fewer (st, s)) [] ++ l) e
-              ∙ sym (append_assoc (cond (is_next kept S) (Fewer (st, s)) []) (brings_first barred st (left_after kept S) rest) (placed (left_of_kept (left_after kept S) rest) us))
+              ap (λ l. cond (is_next kept S) (some st s) [] ++ l) e
+              ∙ sym (append_assoc (cond (is_next kept S) (some st s) []) (brings_first some st (left_after kept S) rest) (placed (left_of_kept (left_after kept S) rest) us))
           by_answer false e _ = e
 
-    pairs_placed : (ws kept : List (List ℕ)) → placed kept (all_pairs G none (map D ws)) ≡ brings_last barred p kept ws
+    pairs_placed : (ws kept : List (List ℕ)) → placed kept (all_pairs nothing none (map D ws)) ≡ brings_last some p kept ws
     unfolding brings_last next_pairs
     pairs_placed [] kept = refl
     pairs_placed (w ∷ ws) kept =
-        steps_placed (D w) (candidates (D w).board) kept (all_pairs G none (map D ws))
-        ∙ ap (λ l. brings_first barred (D w) kept (next_pairs (D w)) ++ l) (pairs_placed ws (left_of_kept kept (next_pairs (D w))))
+        steps_placed (D w) (candidates (D w).board) kept (all_pairs nothing none (map D ws))
+        ∙ ap (λ l. brings_first some (D w) kept (next_pairs (D w)) ++ l) (pairs_placed ws (left_of_kept kept (next_pairs (D w))))
 
     -- the words of the states that are made
-    steps_words : (st : TurnState) (ts : List Step) (us : List Made) → map words (with_steps G none st ts ++ us) ≡ flat_map keeps (flat_map (states_by st) ts) ++ map words us
+    steps_words : (st : TurnState) (ts : List Step) (us : List Made) → map words (with_steps nothing none st ts ++ us) ≡ flat_map keeps (flat_map (states_by st) ts) ++ map words us
     steps_words st [] us = refl
     steps_words st (s ∷ ts) us =
         by_answer (A st s) (steps_words st ts us)
         ∙ (λ i. flat_map keeps ((sym (states_by-is st s)) i ++ flat_map (states_by st) ts) ++ map words us) where
-          by_answer : (v : Bool) → map words (with_steps G none st ts ++ us) ≡ flat_map keeps (flat_map (states_by st) ts) ++ map words us → map words (cond v ((st, s) ∷ with_steps G none st ts) (with_steps G none st ts) ++ us) ≡ flat_map keeps (cond v (next_state st s ∷ []) [] ++ flat_map (states_by st) ts) ++ map words us
+          by_answer : (v : Bool) → map words (with_steps nothing none st ts ++ us) ≡ flat_map keeps (flat_map (states_by st) ts) ++ map words us → map words (cond v ((st, s) ∷ with_steps nothing none st ts) (with_steps nothing none st ts) ++ us) ≡ flat_map keeps (cond v (next_state st s ∷ []) [] ++ flat_map (states_by st) ts) ++ map words us
           by_answer true e = ap (λ l. words (st, s) ∷ l) e
           by_answer false e = e
 
-    pairs_words : (ws : List (List ℕ)) → map words (all_pairs G none (map D ws)) ≡ flat_map (planes_after p) ws
+    pairs_words : (ws : List (List ℕ)) → map words (all_pairs nothing none (map D ws)) ≡ flat_map (planes_after p) ws
     unfolding planes_after next_states
     pairs_words [] = refl
     pairs_words (w ∷ ws) =
-        steps_words (D w) (candidates (D w).board) (all_pairs G none (map D ws))
+        steps_words (D w) (candidates (D w).board) (all_pairs nothing none (map D ws))
         ∙ ap (λ l. flat_map keeps (next_states (D w)) ++ l) (pairs_words ws)
 
     module _ (long : length p.board ≡ 64) where
-      -- the states after two steps
-      calm_at : (w : List ℕ) → In w (layer p 2) → IsCalm p (D w)
+      -- the states after one or two steps
+      calm_at : (n : ℕ) → n < 2 → (w : List ℕ) → In w (layer p (suc n)) → IsCalm p (D w)
       unfolding planes_after next_states
-      calm_at w i =
-          let j = ⊎_elim (λ no. absurd no) (λ k. k) (In-firsts same_words same_words-Decides w [] (flat_map (planes_after p) (layer p 1)) (subst (λ l. In w l) (layer-suc p 1) i)) in
-          let from = In-flat_map (planes_after p) w (layer p 1) j in
-          let before : IsOf p 1 from.0 = layer-of p long 1 (omega arith) from.0 from.1 in
+      calm_at n low w i =
+          let j = ⊎_elim (λ no. absurd no) (λ k. k) (In-firsts same_words same_words-Decides w [] (flat_map (planes_after p) (layer p n)) (subst (λ l. In w l) (layer-suc p n) i)) in
+          let from = In-flat_map (planes_after p) w (layer p n) j in
+          let before : IsOf p n from.0 = layer-of p long n (omega arith) from.0 from.1 in
           let by = In-flat_map keeps w (next_states (D from.0)) from.2 in
-          let state : D from.0 ≡ state_of p before.0 = decoded-of p long 1 from.0 before (omega arith) in
+          let state : D from.0 ≡ state_of p before.0 = decoded-of p long n from.0 before (omega arith) in
           let one = In-next-grows p before.0 by.0 (omega (arith, before.1)) (subst (λ (st : TurnState). In by.0 (next_states st)) state by.1) in
           let back : List Step = one.0 ∷ before.0 in
-          let count : length back ≡ 2 = ap suc before.1 in
+          let count : length back ≡ suc n = ap suc before.1 in
           let is_words : w ≡ state_planes by.0 = ⊎_elim (λ e. e) (λ no. absurd no) by.2 in
           let is : D w ≡ state_of p back = ap D (is_words ∙ ap state_planes one.1) ∙ decoded p long back (omega arith) in
           subst (IsCalm p) (sym is) (record {
@@ -309,23 +295,21 @@ module _ (barred : List Position) where
                 ap (λ st. D (state_planes st)) next.1 ∙ (decoded p long (next.0 ∷ back) (omega arith) ∙ sym next.1);
           })
 
-      all_calm : (ws : List (List ℕ)) → ((w : List ℕ) → In w ws → In w (layer p 2)) → AreAllCalm p (map D ws)
-      all_calm [] among = tt
-      all_calm (w ∷ ws) among = (calm_at w (among w (inl refl)), all_calm ws (λ v i. among v (inr i)))
+      all_calm : (n : ℕ) → n < 2 → (ws : List (List ℕ)) → ((w : List ℕ) → In w ws → In w (layer p (suc n))) → AreAllCalm p (map D ws)
+      all_calm n low [] among = tt
+      all_calm n low (w ∷ ws) among = (calm_at n low w (among w (inl refl)), all_calm n low ws (λ v i. among v (inr i)))
 
-      -- what the last steps in order bring about adds what all last steps would
-      pub in_order : (q : List Position) → firsts same_position q (brings_last barred p (layer p 3) (layer p 2)) ≡ firsts same_position q (brought_from barred p 3)
-      in_order q =
-          let us = all_pairs G none (map D (layer p 2)) in
-          let kept : layer p 3 ≡ news_of [] (map words us) =
-          layer-suc p 2 ∙ (firsts-news same_words same_words-Decides [] (flat_map (planes_after p) (layer p 2)) ∙ ap (news_of []) (sym (pairs_words (layer p 2)))) in
-          let some : AreLess Full [] us (placed (news_of [] (map words us)) us) =
-          less p [] us [] (all_made p [] (map D (layer p 2)) (all_calm (layer p 2) (λ w i. i))) (λ w i. absurd i) in
-          let S = same_position in
-          let out : firsts S q (flat_map Full us) ≡ firsts S q (placed (news_of [] (map words us)) us) =
-          left_out (firsts S) (with_new S) (λ l. refl) (λ l xs x. refl) (with_new-there S same_position-Decides) (with_new-old S same_position-Decides) (with_new-new S same_position-Decides) Full us q (placed (news_of [] (map words us)) us) some in
-          ap (firsts S q) (sym (pairs_placed (layer p 2) (layer p 3)) ∙ ap (λ l. placed l us) kept)
-          ∙ (sym out
-          ∙ (ap (firsts S q) (pairs_bring (layer p 2))
-          ∙ (sym (one_layer same_words same_words-Decides S same_position-Decides (λ w. brings barred 1 (D w)) (λ w. brings barred 2 (D w)) (planes_after p) q (layer p 2) (opens p long barred 2 1 (omega arith)))
-          ∙ ap (λ l. firsts S q (flat_map (λ w. brings barred 1 (D w)) l)) (sym (layer-suc p 2)))))
+      -- what is placed in order adds what all steps after the states of a layer give
+      pub in_order : (same : R → R → Bool) (decides : (x y : R) → Decides (same x y) (x ≡ y)) → IsLessEach → (n : ℕ) → n < 2 → (q : List R)
+          → firsts same q (brings_last some p (layer p (suc (suc n))) (layer p (suc n))) ≡ firsts same q (flat_map (λ w. flat_map all (next_states (D w))) (layer p (suc n)))
+      in_order same decides each n low q =
+          let L = layer p (suc n) in
+          let us = all_pairs nothing none (map D L) in
+          let kept : layer p (suc (suc n)) ≡ news_of [] (map words us) =
+          layer-suc p (suc n) ∙ (firsts-news same_words same_words-Decides [] (flat_map (planes_after p) L) ∙ ap (news_of []) (sym (pairs_words L))) in
+          let fewer : AreLess Full [] us (placed (news_of [] (map words us)) us) =
+          less p each [] us [] (all_made p [] (map D L) (all_calm n low L (λ w i. i))) (λ w i. absurd i) in
+          let out : firsts same q (flat_map Full us) ≡ firsts same q (placed (news_of [] (map words us)) us) =
+          left_out (firsts same) (with_new same) (λ l. refl) (λ l xs x. refl) (with_new-there same decides) (with_new-old same decides) (with_new-new same decides) Full us q (placed (news_of [] (map words us)) us) fewer in
+          ap (firsts same q) (sym (pairs_placed L (layer p (suc (suc n)))) ∙ ap (λ l. placed l us) kept)
+          ∙ (sym out ∙ ap (firsts same q) (pairs_bring L))

@@ -7,10 +7,10 @@ use Rattle.arimaa_board.specs.declared.position.Step.{Step}
 use Rattle.arimaa_model.specs.Plain.{candidates}
 use Rattle.arimaa_region.specs.Same.{same_words}
 use Rattle.arimaa_step.specs.declared.state.TurnState.{TurnState}
-use Rattle.arimaa_step.specs.Commuting.{commutes_before}
+use Rattle.arimaa_step.specs.Commuting.{commutes_before, comes_turned}
 use Rattle.arimaa_step.specs.Next.{next_answer, next_state, state_end, goes_alone}
 use Rattle.arimaa_step.specs.StateWords.{state_planes, state_in_planes}
-use Rattle.arimaa_results.specs.Ahead.{given_by}
+use Rattle.arimaa_results.specs.Ahead.{given_by, states_by}
 use Rattle.arimaa_results.specs.NextStates.{next_pairs}
 
 -- what a step brings about as the last one, where the state accepts it
@@ -36,11 +36,19 @@ abbrev pub left_after : List (List ℕ) → TurnState → List (List ℕ)
 left_after [] st = []
 left_after (w ∷ kept) st = if same_words w (state_planes st) then kept else w ∷ kept
 
--- what the last steps bring about after some steps, each with the state that it makes, where that is the next kept one
-unfoldable pub brings_first : List Position → TurnState → List (List ℕ) → List (Step × TurnState) → List Position
-brings_first barred st kept [] = []
-brings_first barred st kept (pr ∷ pairs) =
-    (if is_next kept pr.1 then brings_in_order barred st pr.0 else []) ++ brings_first barred st (left_after kept pr.1) pairs
+-- what the step t makes after s gives, but nothing where the two made it in the other order
+abbrev pub gives_in_order : {R : Type 0} → (TurnState → List R) → TurnState → Step → Step → List R
+gives_in_order given st s t = if comes_turned st s t then [] else flat_map given (states_by (next_state st s) t)
+
+-- what the states give that a third step makes after s, in order
+abbrev pub thirds_in_order : {R : Type 0} → (TurnState → List R) → TurnState → Step → List R
+thirds_in_order given st s = flat_map (gives_in_order given st s) (candidates (next_state st s).board)
+
+-- what is placed after some steps, each with the state that it makes, where that is the next kept one
+unfoldable pub brings_first : {R : Type 0} → (TurnState → Step → List R) → TurnState → List (List ℕ) → List (Step × TurnState) → List R
+brings_first placed st kept [] = []
+brings_first placed st kept (pr ∷ pairs) =
+    (if is_next kept pr.1 then placed st pr.0 else []) ++ brings_first placed st (left_after kept pr.1) pairs
 
 -- the kept states that are left after those
 unfoldable pub left_of_kept : List (List ℕ) → List (Step × TurnState) → List (List ℕ)
@@ -48,8 +56,8 @@ left_of_kept kept [] = kept
 left_of_kept kept (pr ∷ pairs) = left_of_kept (left_after kept pr.1) pairs
 
 -- the same for all steps after the states that some words hold
-unfoldable pub brings_last : List Position → Position → List (List ℕ) → List (List ℕ) → List Position
-brings_last barred p kept [] = []
-brings_last barred p kept (w ∷ ws) =
-    brings_first barred (state_in_planes p w) kept (next_pairs (state_in_planes p w))
-    ++ brings_last barred p (left_of_kept kept (next_pairs (state_in_planes p w))) ws
+unfoldable pub brings_last : {R : Type 0} → (TurnState → Step → List R) → Position → List (List ℕ) → List (List ℕ) → List R
+brings_last placed p kept [] = []
+brings_last placed p kept (w ∷ ws) =
+    brings_first placed (state_in_planes p w) kept (next_pairs (state_in_planes p w))
+    ++ brings_last placed p (left_of_kept kept (next_pairs (state_in_planes p w))) ws

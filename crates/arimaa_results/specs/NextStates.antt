@@ -53,6 +53,10 @@ AreAllAccepted st steps = (d : Dir) (n : ℕ) → n < 64 → has_step steps n d 
 abbrev pub AreAllEnding : TurnState → AcceptedSteps → Type 0
 AreAllEnding st steps = (d : Dir) (n : ℕ) → n < 64 → has_step steps n d ≡ true → ends_by st d n ≡ true
 
+-- what the state of a step gives
+abbrev pub next_gives : {R : Type 0} → (TurnState → List R) → Step × TurnState → List R
+next_gives given pr = given pr.1
+
 -- whether two directions are the same
 abbrev pub same_dir : Dir → Dir → Bool
 same_dir North North = true

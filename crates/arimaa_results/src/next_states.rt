@@ -1,9 +1,14 @@
 //! The states that one more step makes, one after another.
-ghost use Rattle.std.specs.Prelude.{◌≡◌, ◌++◌, [], IfNone, ℕ, ◌<◌, ◌==◌, ◌&&◌, ◌||◌, not, true};
+ghost use Rattle.std.specs.Prelude.{◌≡◌, ◌++◌, [], List, IsOk, IfNone, ℕ, ◌<◌, ◌==◌, ◌&&◌, ◌||◌, not, true};
+ghost use Rattle.std.specs.List.{flat_map};
 ghost use Rattle.std.specs.Option.{option_to_list};
+ghost use Rattle.arimaa_board.specs.declared.position.Position.{Position};
+ghost use Rattle.arimaa_step.specs.declared.state.TurnState.{TurnState};
+ghost use Rattle.arimaa_step.specs.Next.{next_answer, next_state};
+ghost use Rattle.arimaa_results.specs.LastSteps.{thirds_in_order};
 ghost use Rattle.arimaa_board.specs.Masks.{is_in};
 ghost use Rattle.arimaa_board.specs.declared.square.Dir.TheVariants.{North, East, South, West};
-ghost use Rattle.arimaa_results.specs.NextStates.{AreAllAccepted, IsFirstDirection, IsFirstTaken, IsStepTaken, has_step, last_of, next_pairs, same_dir};
+ghost use Rattle.arimaa_results.specs.NextStates.{AreAllAccepted, IsFirstDirection, IsFirstTaken, IsStepTaken, has_step, last_of, next_gives, next_pairs, same_dir};
 
 use arimaa_board::{Dir, Position, Square, Step, first_square, without};
 use arimaa_model::TurnFault;
@@ -120,6 +125,22 @@ impl<'a> NextStates<'a> {
         NextStates {
             state,
             steps: state.accepted(),
+        }
+    }
+
+    /// Those after a step of a state, and the state `after` it, in order: where that is a single step after which no
+    /// pull may follow, those that the two steps make in the other order are left out.
+    pub(crate) fn in_order(before: &TurnState, step: &Step, after: &'a TurnState) -> NextStates<'a>
+        requires accepted { IsOk (next_answer before.now step.now) }
+        requires after { after.now ≡ next_state before.now step.now }
+        ensures positions { (given : TurnState → List Position)
+            → flat_map (next_gives given) result ≡ thirds_in_order given before.now step.now }
+        ensures words { (given : TurnState → List (List ℕ))
+            → flat_map (next_gives given) result ≡ thirds_in_order given before.now step.now }
+    {
+        NextStates {
+            state: after,
+            steps: before.accepted_in_order(step, after),
         }
     }
 

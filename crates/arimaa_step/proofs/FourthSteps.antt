@@ -37,7 +37,7 @@ in_steps East n p = inr (inl refl)
 in_steps South n p = inr (inr (inl refl))
 in_steps West n p = inr (inr (inr (inl refl)))
 
-goes_in : (b : Board) (s : Step) → Goes b s → In s (candidates b)
+pub goes_in : (b : Board) (s : Step) → Goes b s → In s (candidates b)
 unfolding candidates squares fits
 goes_in b s go =
     let here : at b s.from ≡ Some s.piece = held_piece s.piece (at b s.from) (and_parts (holds s.piece (at b s.from)) (is_free b (target s)) go.fit).0 in

@@ -86,11 +86,11 @@ turned_away a b c d x in_c in_d in_x is hc hd = record {
 
 -- ---- boards
 
-whole : (b : Board) → settle b ≡ b → length b ≡ 64
+pub whole : (b : Board) → settle b ≡ b → length b ≡ 64
 unfolding settle
 whole b calm = ap length (sym calm) ∙ length-board_of (λ s. kept b s (at b s))
 
-at-settled : (b : Board) (x : ℕ) → x < 64 → at (settle b) x ≡ kept b x (at b x)
+pub at-settled : (b : Board) (x : ℕ) → x < 64 → at (settle b) x ≡ kept b x (at b x)
 unfolding settle
 at-settled b x small = at-board_of (λ s. kept b s (at b s)) x small
 
@@ -121,7 +121,7 @@ untouched b f g x calm small far =
     ∙ (kept_agree (moved b f g) b x (at b x) (λ trap d y to. moved_apart b f g y (far.support trap d y to))
     ∙ (sym (at-settled b x small) ∙ ap (λ c. at c x) calm)))
 
-at-moved : (b : Board) (f g x : ℕ) → length b ≡ 64 → f < 64 → g < 64 → at (moved b f g) x ≡ cond (x == g) (at b f) (cond (x == f) None (at b x))
+pub at-moved : (b : Board) (f g x : ℕ) → length b ≡ 64 → f < 64 → g < 64 → at (moved b f g) x ≡ cond (x == g) (at b f) (cond (x == f) None (at b x))
 at-moved b f g x long in_f in_g =
     let inside : f < length b = omega arith in
     let long_put : length (put b f None) ≡ 64 = length-set b f None ∙ long in

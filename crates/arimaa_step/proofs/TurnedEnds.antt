@@ -21,7 +21,7 @@ use Rattle.arimaa_step.specs.Commuting.{in_zone, commutes, EndTurned}
 use Rattle.arimaa_step.proofs.Turned.{may_be_turned, single_goes, outside_away, outside_to}
 
 -- a step that goes alone is accepted
-alone_is_ok : (st : TurnState) (s : Step) → st.count < 4 → goes_alone st s ≡ true → is_ok (next_answer st s) ≡ true
+pub alone_is_ok : (st : TurnState) (s : Step) → st.count < 4 → goes_alone st s ≡ true → is_ok (next_answer st s) ≡ true
 unfolding next_answer
 alone_is_ok st s few alone =
     let early : nat_le 4 st.count ≡ false = grind (arith, nat_tests) in
@@ -43,7 +43,7 @@ ended_cuts st q h = by_count (st.count == 0) st.cut h where
   by_count false false e = absurd (cc)
 
 -- a single step begins no push
-begins_none : (b : Board) (side : Color) (s : Step) → is_single b side s ≡ true → is_half b side s ≡ false
+pub begins_none : (b : Board) (side : Color) (s : Step) → is_single b side s ≡ true → is_half b side s ≡ false
 unfolding is_single is_half
 begins_none b side s h =
     let parts = and_parts ((fits b s && is_own side s) && not (is_frozen b s.from)) (not (goes_back s)) h in
@@ -51,7 +51,7 @@ begins_none b side s h =
     let three = and_parts (fits b s) (is_own side s) two.0 in
     rw (three.0, three.1) refl
 
-or_no : (x y : Bool) → y ≡ false → (x || y) ≡ true → x ≡ true
+pub or_no : (x y : Bool) → y ≡ false → (x || y) ≡ true → x ≡ true
 or_no true y e h = refl
 or_no false y e h = absurd (both_ways y e h)
 
@@ -67,7 +67,7 @@ pulls_none st t (Some left) far = last (beats left.1 t.piece && fits st.board t)
   last true y e = e
   last false y e = refl
 
-pushes_none : (st : TurnState) (t : Step) (left : Option (ℕ × Piece)) → left ≡ None → completes_push st t left ≡ false
+pub pushes_none : (st : TurnState) (t : Step) (left : Option (ℕ × Piece)) → left ≡ None → completes_push st t left ≡ false
 pushes_none st t left none = rw none refl
 
 module _ (st : TurnState) (s t : Step) (calm : settle st.board ≡ st.board) (cut : st.cut ≡ true) (few : st.count < 3) (first : is_single st.board st.start.side s ≡ true) (far : commutes s t ≡ true) where
@@ -88,7 +88,7 @@ module _ (st : TurnState) (s t : Step) (calm : settle st.board ≡ st.board) (cu
   left_far true = enters_other
   left_far false = tt
 
-  no_push : (next_state st s).open_push ≡ None
+  pub no_push : (next_state st s).open_push ≡ None
   no_push =
       let begins : begins_push st s ≡ false = rw cut (begins_none st.board side s first) in
       rw begins refl

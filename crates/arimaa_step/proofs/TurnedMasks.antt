@@ -10,7 +10,7 @@ use Rattle.arimaa_board.specs.declared.square.Dir.TheVariants.{North, East, Sout
 use Rattle.arimaa_step.specs.declared.earlier_steps.EarlierSteps.{EarlierSteps}
 use Rattle.arimaa_step.specs.declared.accepted.AcceptedSteps.{AcceptedSteps}
 use Rattle.arimaa_step.specs.declared.state.TurnState.{TurnState}
-use Rattle.arimaa_step.specs.Accepted.{accepts, ends_by, mask_towards, AreEnding}
+use Rattle.arimaa_step.specs.Accepted.{accepts, ends_by, mask_towards, AreAccepted, AreEnding}
 use Rattle.arimaa_board.specs.declared.position.Step.{Step}
 use Rattle.arimaa_board.specs.Square.{next_square, is_trap}
 use Rattle.arimaa_board.specs.Masks.{bit_of, IsMaskOf, passes, is_beside}
@@ -19,7 +19,7 @@ use Rattle.arimaa_model.specs.Results.{step_of}
 use Rattle.arimaa_board.proofs.Beside.{upto_all}
 use Rattle.arimaa_board.proofs.MaskLaws.{and_mask, or_mask, not_mask, like_mask}
 use Rattle.std.proofs.lemmas.Bool.{eqb-true}
-use Rattle.arimaa_step.specs.Commuting.{is_of, is_close, is_trap_of, in_zone, commutes, commutes_before, AreEarlier, AreOthers, AreEndingInOrder}
+use Rattle.arimaa_step.specs.Commuting.{is_of, is_close, is_trap_of, in_zone, commutes, commutes_before, moves_calmly, goes_calmly, AreEarlier, AreOthers, AreAcceptedInOrder, AreEndingInOrder}
 use Rattle.arimaa_step.specs.Next.{next_state, goes_alone}
 use Rattle.arimaa_step.proofs.AcceptedLaws.{and_true}
 
@@ -117,3 +117,25 @@ pub in_order_other : (st : TurnState) (s : Step) (a : AcceptedSteps) → goes_al
 in_order_other st s a other h d p n small =
     subst (λ v. bit_at (mask_towards a d) n ≡ bit_of (ends_by (next_state st s) d n && not (v && commutes_before s (step_of n d p)))) (sym other)
     (h d n small ∙ sym (ap bit_of (and_true (ends_by (next_state st s) d n))))
+
+-- the steps that are accepted after a step, by whether that is a single one after which no pull may follow
+module _ (st : TurnState) (s : Step) (a : AcceptedSteps) where
+  abbrev S : TurnState
+  S = next_state st s
+
+  abbrev IsLeft : Dir → Type 0
+  IsLeft d = (p : Piece) → IsMaskOf (λ n. accepts S d n && not (commutes_before s (step_of n d p) && moves_calmly S n)) (mask_towards a d)
+
+  pub in_order_calm : goes_calmly st s ≡ true → IsLeft North → IsLeft East → IsLeft South → IsLeft West → AreAcceptedInOrder st s a
+  in_order_calm calm north east south west d p n small =
+      subst (λ v. bit_at (mask_towards a d) n ≡ bit_of (accepts S d n && not (v && (commutes_before s (step_of n d p) && moves_calmly S n)))) (sym calm) (each d p n small) where
+        each : (e : Dir) → IsLeft e
+        each North = north
+        each East = east
+        each South = south
+        each West = west
+
+  pub in_order_all : goes_calmly st s ≡ false → AreAccepted S a → AreAcceptedInOrder st s a
+  in_order_all other all d p n small =
+      subst (λ v. bit_at (mask_towards a d) n ≡ bit_of (accepts S d n && not (v && (commutes_before s (step_of n d p) && moves_calmly S n)))) (sym other)
+      (all d n small ∙ sym (ap bit_of (and_true (accepts S d n))))

@@ -1,6 +1,6 @@
 -- Steps that commute: two single steps that may be made in either order, and lead to the same
 -- board.
-use Rattle.std.specs.Prelude.{◌≡◌, ℕ, ◌<◌, ◌==◌, Bool, ◌&&◌, ◌||◌, not, IsTrue, Ok, is_ok, nat_lt}
+use Rattle.std.specs.Prelude.{◌≡◌, ℕ, ◌<◌, ◌==◌, Bool, ◌&&◌, ◌||◌, not, IsTrue, Ok, is_ok, is_none, nat_lt}
 use Rattle.arimaa_board.specs.declared.piece.Color.{Color}
 use Rattle.arimaa_board.specs.declared.piece.Piece.{Piece}
 use Rattle.arimaa_board.specs.declared.square.Dir.{Dir}
@@ -9,7 +9,8 @@ use Rattle.arimaa_board.specs.declared.board.Board.{Board}
 use Rattle.arimaa_board.specs.declared.position.Step.{Step}
 use Rattle.arimaa_board.specs.declared.position.Position.{Position}
 use Rattle.arimaa_board.specs.Square.{is_trap}
-use Rattle.arimaa_board.specs.Board.{settle}
+use Rattle.arimaa_board.specs.Piece.{other_color}
+use Rattle.arimaa_board.specs.Board.{at, holds_color, settle}
 use Rattle.arimaa_board.specs.Masks.{IsMaskOf, passes, is_beside}
 use Rattle.arimaa_model.specs.Moves.{target, enters, after, is_single}
 use Rattle.arimaa_model.specs.Results.{step_of}
@@ -66,6 +67,24 @@ AreOthers st s steps = (d : Dir) (p : Piece) → IsMaskOf (λ n. accepts st d n 
 -- a given step, and doesn't commute with that one, if it is a single step, and come before it
 abbrev pub AreEndingInOrder : TurnState → Step → AcceptedSteps → Type 0
 AreEndingInOrder st s steps = (d : Dir) (p : Piece) → IsMaskOf (λ n. ends_by (next_state st s) d n && not (goes_alone st s && commutes_before s (step_of n d p))) (mask_towards steps d)
+
+-- whether a piece of the side to move stands on a square, and no enemy beside it: no pull may follow its step
+abbrev pub moves_calmly : TurnState → ℕ → Bool
+moves_calmly st n = holds_color st.start.side (at st.board n) && not (is_beside (λ m. holds_color (other_color st.start.side) (at st.board m)) n)
+
+-- whether a step is a single one after which no pull may follow
+abbrev pub goes_calmly : TurnState → Step → Bool
+goes_calmly st s = is_none (next_state st s).open_pull && goes_alone st s
+
+-- whether a step after another makes what the two make in the other order, which comes before: they commute, and no pull
+-- may follow either
+abbrev pub comes_turned : TurnState → Step → Step → Bool
+comes_turned st s t = goes_calmly st s && (commutes_before s t && moves_calmly (next_state st s) t.from)
+
+-- in each direction the mask has the squares from which a step, of whichever piece, is accepted after a given step, and
+-- isn't made in the other order before
+abbrev pub AreAcceptedInOrder : TurnState → Step → AcceptedSteps → Type 0
+AreAcceptedInOrder st s steps = (d : Dir) (p : Piece) → IsMaskOf (λ n. accepts (next_state st s) d n && not (comes_turned st s (step_of n d p))) (mask_towards steps d)
 
 -- two steps of a side that were made in this order may be turned round: each is a single step there
 -- too, and the board after both is the same

@@ -8,7 +8,7 @@ ghost use Rattle.arimaa_board.specs.declared.position.Step.{Step};
 ghost use Rattle.arimaa_step.specs.declared.state.TurnState.{TurnState};
 ghost use Rattle.arimaa_step.specs.Accepted.{AreAccepted, mask_towards};
 ghost use Rattle.arimaa_step.specs.Next.{next_answer, next_state};
-ghost use Rattle.arimaa_step.specs.Commuting.{is_of, is_close, is_trap_of, in_zone, earlier_towards, commutes_before, AreEarlier, AreOthers, AreEndingInOrder, StepsCommute, EndsCommute};
+ghost use Rattle.arimaa_step.specs.Commuting.{is_of, is_close, is_trap_of, in_zone, earlier_towards, commutes_before, AreEarlier, AreOthers, moves_calmly, goes_calmly, AreAcceptedInOrder, AreEndingInOrder, StepsCommute, EndsCommute};
 ghost use Rattle.arimaa_model.specs.Results.{step_of};
 
 use crate::accepted::AcceptedSteps;
@@ -67,6 +67,24 @@ fn below(mask: u64, square: Square, dir: Dir) -> u64
     mask & entering(mask, dir) & squares_before(square)
 }
 
+// The squares that two masks have.
+#[inline(always)]
+fn common(mask: u64, other: u64) -> u64
+    ensures { (test passing : ℕ → Bool) → IsMaskOf test mask → IsMaskOf passing other
+        → IsMaskOf (λ n. test n && passing n) result }
+{
+    mask & other
+}
+
+// The squares of a mask but for those of another.
+#[inline(always)]
+fn mask_without(mask: u64, other: u64) -> u64
+    ensures { (test passing : ℕ → Bool) → IsMaskOf test mask → IsMaskOf passing other
+        → IsMaskOf (λ n. test n && not (passing n)) result }
+{
+    mask & !other
+}
+
 impl EarlierSteps {
     /// The steps that commute with a step and come before it. A step commutes with it where the
     /// squares that it leaves and enters are none of those of the step, nor beside them, nor
@@ -104,6 +122,53 @@ impl EarlierSteps {
 }
 
 impl TurnState {
+    // The pieces of the side to move without an enemy beside them: after their steps no pull may
+    // follow.
+    #[inline(always)]
+    fn calm_movers(&self) -> u64
+        ensures { IsMaskOf (moves_calmly self.now) result }
+    {
+        let side = self.start.side;
+        mask_without(self.board.of(side), neighbours(self.board.of(side.other())))
+    }
+
+    // Whether a step is a single one after which no pull may follow.
+    #[inline(always)]
+    fn made_calmly(&self, step: &Step, after: &TurnState) -> bool
+        requires accepted { IsOk (next_answer self.now step.now) }
+        requires after { after.now ≡ next_state self.now step.now }
+        ensures { result ≡ goes_calmly self.now step.now }
+    {
+        match after.open_pull {
+            Some(_) => false,
+            None => self.made_alone(step),
+        }
+    }
+
+    /// The steps that the state that a step makes of this one, `after`, accepts. Where it is a
+    /// single step after which no pull may follow, those that commute with it, come before it, and
+    /// after which no pull may follow either are left out: the state that they make is made when
+    /// the two are turned round.
+    pub fn accepted_in_order(&self, step: &Step, after: &TurnState) -> AcceptedSteps
+        requires accepted { IsOk (next_answer self.now step.now) }
+        requires after { after.now ≡ next_state self.now step.now }
+        ensures { AreAcceptedInOrder self.now step.now result }
+    {
+        let accepted = after.accepted();
+        if self.made_calmly(step, after) {
+            let earlier = EarlierSteps::commuting_with(step);
+            let calm = after.calm_movers();
+            AcceptedSteps {
+                north: mask_without(accepted.north, common(earlier.north, calm)),
+                east: mask_without(accepted.east, common(earlier.east, calm)),
+                south: mask_without(accepted.south, common(earlier.south, calm)),
+                west: mask_without(accepted.west, common(earlier.west, calm)),
+            }
+        } else {
+            accepted
+        }
+    }
+
     /// The steps that end a move in the state that a step makes of this one, `after`. Where it is a
     /// single step, those that commute with it and come before it are left out: what they end the
     /// turn with, both end it with when they are made in the other order.

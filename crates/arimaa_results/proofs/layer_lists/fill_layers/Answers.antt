@@ -53,8 +53,8 @@ returns-in_err-next_layer-clause-work c =
     let same : c.next_layer.result ≡ c.from_residual-in_err-next_layer.result = c.in_err-next_layer.was ∙ (sym (ap Err raised.2) ∙ sym raised.1) in
     λ e. let many = c.next_layer.ensures.work (ap is_work same ∙ e) in omega (arith, many, c.first_layer.ensures.room, live-more p 2)
 
-pub returns-in_err-next_layer-2-clause-filled : goal.returns-in_err-next_layer-2-clause-filled
-returns-in_err-next_layer-2-clause-filled c =
+pub returns-in_err-third_layer-clause-filled : goal.returns-in_err-third_layer-clause-filled
+returns-in_err-third_layer-clause-filled c =
     let p = c.args.p.now in
     let a = c.args.region.now in
     let X : ℕ → List Position = brought_from c.args.barred.now p in
@@ -62,10 +62,10 @@ returns-in_err-next_layer-2-clause-filled c =
     let lead0 = leads_start same_position a.room a.segments {left = whole} refl in
     let lead1 = leads_ok same_position (X 0) (X 1 ++ (X 2 ++ (X 3 ++ []))) refl lead0 (ap is_ok c.in_ok-first_layer.was) c.first_layer.ensures.filled in
     let lead2 = leads_ok same_position (X 1) (X 2 ++ (X 3 ++ [])) refl lead1 (ap is_ok c.in_ok-next_layer.was) c.next_layer.ensures.filled in
-    let raised = err_from_is_err_and c.from_residual-in_err-next_layer-2.result c.from_residual-in_err-next_layer-2.ensures.1 in
-    let same : c.next_layer-2.result ≡ c.from_residual-in_err-next_layer-2.result = c.in_err-next_layer-2.was ∙ (sym (ap Err raised.2) ∙ sym raised.1) in
-    subst (λ o. IsFilled a c.next_layer-2.new.region (is_ok o) (is_room o) whole) same
-    (leads_err same_position (X 2) (X 3 ++ []) refl lead2 (ap is_ok c.in_err-next_layer-2.was) c.next_layer-2.ensures.filled)
+    let raised = err_from_is_err_and c.from_residual-in_err-third_layer.result c.from_residual-in_err-third_layer.ensures.1 in
+    let same : c.third_layer.result ≡ c.from_residual-in_err-third_layer.result = c.in_err-third_layer.was ∙ (sym (ap Err raised.2) ∙ sym raised.1) in
+    subst (λ o. IsFilled a c.third_layer.new.region (is_ok o) (is_room o) whole) same
+    (leads_err same_position (X 2) (X 3 ++ []) refl lead2 (ap is_ok c.in_err-third_layer.was) c.third_layer.ensures.filled)
 
 pub returns-in-Ok-clause-filled : goal.returns-in-Ok-clause-filled
 returns-in-Ok-clause-filled c =
@@ -76,7 +76,7 @@ returns-in-Ok-clause-filled c =
     let lead0 = leads_start same_position a.room a.segments {left = whole} refl in
     let lead1 = leads_ok same_position (X 0) (X 1 ++ (X 2 ++ (X 3 ++ []))) refl lead0 (ap is_ok c.in_ok-first_layer.was) c.first_layer.ensures.filled in
     let lead2 = leads_ok same_position (X 1) (X 2 ++ (X 3 ++ [])) refl lead1 (ap is_ok c.in_ok-next_layer.was) c.next_layer.ensures.filled in
-    let lead3 = leads_ok same_position (X 2) (X 3 ++ []) refl lead2 (ap is_ok c.in_ok-next_layer-2.was) c.next_layer-2.ensures.filled in
+    let lead3 = leads_ok same_position (X 2) (X 3 ++ []) refl lead2 (ap is_ok c.in_ok-third_layer.was) c.third_layer.ensures.filled in
     leads_end same_position refl (leads_ok same_position (X 3) [] refl lead3 (ap is_ok c.in-Ok.is) c.last_steps.ensures.filled)
 
 pub returns-in-Err-clause-filled : goal.returns-in-Err-clause-filled
@@ -88,5 +88,5 @@ returns-in-Err-clause-filled c =
     let lead0 = leads_start same_position a.room a.segments {left = whole} refl in
     let lead1 = leads_ok same_position (X 0) (X 1 ++ (X 2 ++ (X 3 ++ []))) refl lead0 (ap is_ok c.in_ok-first_layer.was) c.first_layer.ensures.filled in
     let lead2 = leads_ok same_position (X 1) (X 2 ++ (X 3 ++ [])) refl lead1 (ap is_ok c.in_ok-next_layer.was) c.next_layer.ensures.filled in
-    let lead3 = leads_ok same_position (X 2) (X 3 ++ []) refl lead2 (ap is_ok c.in_ok-next_layer-2.was) c.next_layer-2.ensures.filled in
+    let lead3 = leads_ok same_position (X 2) (X 3 ++ []) refl lead2 (ap is_ok c.in_ok-third_layer.was) c.third_layer.ensures.filled in
     leads_stop same_position (X 3) [] refl lead3 (added_err same_position c.last_steps.result _ c.in-Err.is c.last_steps.ensures.filled)

@@ -8,11 +8,11 @@ use Rattle.arimaa_step.specs.declared.state.TurnState.{TurnState}
 use Rattle.arimaa_step.specs.StateWords.{state_in_planes}
 use Rattle.arimaa_results.specs.declared.turn_walk.NoRoom.{NoRoom}
 use Rattle.arimaa_results.specs.Adding.{IsFilled}
-use Rattle.arimaa_results.specs.LastSteps.{brings_first, brings_last, left_of_kept}
+use Rattle.arimaa_results.specs.LastSteps.{brings_in_order, brings_first, brings_last, left_of_kept}
 use Rattle.arimaa_results.specs.Layering.{layer, layers_to, brought_from}
 use Rattle.arimaa_results.specs.NextStates.{next_pairs}
 use Rattle.arimaa_results.proofs.Adding.{leads_start, leads_ok, leads_stop, leads_end, added_err, added_raised, added-like}
-use Rattle.arimaa_results.proofs.InOrder.{in_order}
+use Rattle.arimaa_results.proofs.OrderedLayers.{fourth_in_order}
 use Rattle.arimaa_results.proofs.Kept.{kept_start, last_start, last_split, last_end}
 use Rattle.arimaa_results.proofs.Layers.{reading, IsRead, live-more, layers_to-suc, layers-count}
 use Rattle.arimaa_results.proofs.layer_lists.last_steps.Goals as goal
@@ -41,7 +41,7 @@ loop-place-init c =
     let p = c.args.p.now in
     record {
       filled = leads_start same_position c.args.region.now.room c.args.region.now.segments
-          (last_start c.args.barred.now p c.args.second _ (layer p 3) (layer p 2) (kept_start p c.args.third c.args.region.now.work.segments c.requires.layers c.requires.third));
+          (last_start (brings_in_order c.args.barred.now) p c.args.second _ (layer p 3) (layer p 2) (kept_start p c.args.third c.args.region.now.work.segments c.requires.layers c.requires.third));
       work = refl;
     }
 
@@ -62,9 +62,9 @@ loop-place-preserved c =
     let st : TurnState = c.from_planes-state.result in
     let r = c.last_steps_from.result in
     let state : st ≡ state_in_planes p (get_or L i w) = c.from_planes-state.ensures read.of.0 read.few read.of.2 ∙ (sym read.state ∙ ap (state_in_planes p) (sym read.at)) in
-    let X : List Position = brings_first barred st kept (next_pairs st) in
+    let X : List Position = brings_first (brings_in_order barred) st kept (next_pairs st) in
     let filled : IsFilled c.loop-place.region c.last_steps_from.new.region (is_ok r) (is_err r) X =
-    subst (λ (h : Stacked (List ℕ)). IsFilled c.loop-place.region c.last_steps_from.new.region (is_ok r) (is_err r) (brings_first barred st (drop c.loop-place.next (live_of h.segments)) (next_pairs st))) c.loop-place.invariant.work c.last_steps_from.ensures.filled in
+    subst (λ (h : Stacked (List ℕ)). IsFilled c.loop-place.region c.last_steps_from.new.region (is_ok r) (is_err r) (brings_first (brings_in_order barred) st (drop c.loop-place.next (live_of h.segments)) (next_pairs st))) c.loop-place.invariant.work c.last_steps_from.ensures.filled in
     let n = c.in_ok-next.next in
     let answer : Result ℕ NoRoom = Ok n in
     let given : IfOk answer (λ m. drop m live ≡ left_of_kept kept (next_pairs st)) =
@@ -72,7 +72,7 @@ loop-place-preserved c =
     (subst (λ (h : Stacked (List ℕ)). IfOk r (λ m. drop m (live_of h.segments) ≡ left_of_kept (drop c.loop-place.next (live_of h.segments)) (next_pairs st))) c.loop-place.invariant.work c.last_steps_from.ensures.next) in
     let next : c.loop-place.place + 1 - c.args.second ≡ i + 1 = omega (arith, c.loop-place.auto.place) in
     record {
-      filled = rw next (leads_ok same_position X (brings_last barred p (drop n live) (drop (i + 1) L)) (last_split barred p kept (drop n live) L i w st read.inside state given) c.loop-place.invariant.filled (ap is_ok c.in_ok-next.was) filled);
+      filled = rw next (leads_ok same_position X (brings_last (brings_in_order barred) p (drop n live) (drop (i + 1) L)) (last_split (brings_in_order barred) p kept (drop n live) L i w st read.inside state given) c.loop-place.invariant.filled (ap is_ok c.in_ok-next.was) filled);
       work = c.last_steps_from.ensures.work ∙ c.loop-place.invariant.work;
     }
 
@@ -93,15 +93,15 @@ returns-in_err-next-clause-filled c =
     let st : TurnState = c.from_planes-state.result in
     let r = c.last_steps_from.result in
     let state : st ≡ state_in_planes p (get_or L i w) = c.from_planes-state.ensures read.of.0 read.few read.of.2 ∙ (sym read.state ∙ ap (state_in_planes p) (sym read.at)) in
-    let X : List Position = brings_first barred st kept (next_pairs st) in
+    let X : List Position = brings_first (brings_in_order barred) st kept (next_pairs st) in
     let filled : IsFilled c.loop-place.region c.last_steps_from.new.region (is_ok r) (is_err r) X =
-    subst (λ (h : Stacked (List ℕ)). IsFilled c.loop-place.region c.last_steps_from.new.region (is_ok r) (is_err r) (brings_first barred st (drop c.loop-place.next (live_of h.segments)) (next_pairs st))) c.loop-place.invariant.work c.last_steps_from.ensures.filled in
+    subst (λ (h : Stacked (List ℕ)). IsFilled c.loop-place.region c.last_steps_from.new.region (is_ok r) (is_err r) (brings_first (brings_in_order barred) st (drop c.loop-place.next (live_of h.segments)) (next_pairs st))) c.loop-place.invariant.work c.last_steps_from.ensures.filled in
     let after = left_of_kept kept (next_pairs st) in
-    let whole = brings_last barred p (layer p 3) L in
+    let whole = brings_last (brings_in_order barred) p (layer p 3) L in
     let raised = err_from_is_err_and c.from_residual.result c.from_residual.ensures.1 in
     added_raised same_position c.from_residual.result raised.0 raised.1
-    (added-like same_position whole (brought_from barred p 3) (in_order barred p c.at-corner.ensures.size (top c.args.region.now.segments))
-    (leads_stop same_position X (brings_last barred p after (drop (i + 1) L)) (last_split barred p kept after L i w st read.inside state refl) c.loop-place.invariant.filled
+    (added-like same_position whole (brought_from barred p 3) (fourth_in_order barred p c.at-corner.ensures.size (top c.args.region.now.segments))
+    (leads_stop same_position X (brings_last (brings_in_order barred) p after (drop (i + 1) L)) (last_split (brings_in_order barred) p kept after L i w st read.inside state refl) c.loop-place.invariant.filled
     (added_err same_position r _ c.in_err-next.was filled)))
 
 pub returns-clause-filled : goal.returns-clause-filled
@@ -110,5 +110,5 @@ returns-clause-filled c =
     let barred = c.args.barred.now in
     let i = c.loop-place.place - c.args.second in
     let past : length (layer p 2) ≤ i = omega (arith, c.requires.second, c.requires.third, live-more p 1) in
-    added-like same_position (brings_last barred p (layer p 3) (layer p 2)) (brought_from barred p 3) (in_order barred p c.at-corner.ensures.size (top c.args.region.now.segments))
-    (leads_end same_position (last_end barred p _ (layer p 2) i past) c.loop-place.invariant.filled)
+    added-like same_position (brings_last (brings_in_order barred) p (layer p 3) (layer p 2)) (brought_from barred p 3) (fourth_in_order barred p c.at-corner.ensures.size (top c.args.region.now.segments))
+    (leads_end same_position (last_end (brings_in_order barred) p _ (layer p 2) i past) c.loop-place.invariant.filled)

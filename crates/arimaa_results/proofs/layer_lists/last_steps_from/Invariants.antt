@@ -1,7 +1,7 @@
 use Rattle.std.proofs.Common.{◌≡◌, length, drop}
 use Rattle.arimaa_region.specs.Same.{same_position}
 use Rattle.arimaa_region.specs.Segments.{live_of}
-use Rattle.arimaa_results.specs.LastSteps.{brings_first, left_of_kept}
+use Rattle.arimaa_results.specs.LastSteps.{brings_in_order, brings_first, left_of_kept}
 use Rattle.arimaa_results.specs.NextStates.{next_pairs, pairs_left, AreAllAccepted}
 use Rattle.arimaa_results.proofs.Adding.{Leads}
 use Rattle.arimaa_results.proofs.layer_lists.last_steps_from.Given as goal
@@ -10,8 +10,8 @@ use Rattle.arimaa_results.proofs.layer_lists.last_steps_from.Given as goal
 abbrev pub invariant-loop-step : goal.invariant-loop-step
 invariant-loop-step l = record {
   filled : Leads same_position l.fn.region.room l.region.room l.fn.region.segments l.region.segments
-      (brings_first l.barred l.state (drop l.next (live_of l.fn.region.work.segments)) (pairs_left l.state l.steps))
-      (brings_first l.barred l.state (drop l.first (live_of l.fn.region.work.segments)) (next_pairs l.state));
+      (brings_first (brings_in_order l.barred) l.state (drop l.next (live_of l.fn.region.work.segments)) (pairs_left l.state l.steps))
+      (brings_first (brings_in_order l.barred) l.state (drop l.first (live_of l.fn.region.work.segments)) (next_pairs l.state));
   kept : left_of_kept (drop l.next (live_of l.fn.region.work.segments)) (pairs_left l.state l.steps)
       ≡ left_of_kept (drop l.first (live_of l.fn.region.work.segments)) (next_pairs l.state);
   accepted : AreAllAccepted l.state l.steps;
