@@ -1,6 +1,9 @@
 pub mod PairSteps
 pub mod Counting
+pub mod Dealing
 pub mod Playing
+pub mod Gathering
+pub mod Working
 pub mod WordForms
 pub mod ReportSteps
 pub mod Agreeing

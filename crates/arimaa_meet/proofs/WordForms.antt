@@ -1,7 +1,6 @@
 -- Words by their first one, and how a run ends that writes an answer.
-use Rattle.std.proofs.Common.{◌≡◌, ◌-◌, ℕ, suc, List, [], ◌∷◌, ◌++◌, length, take, drop, slice_get, Option, Some, inl, inr, append-nil, refl, sym, ◌∙◌, ap, subst, arith, ⊎_elim}
+use Rattle.std.proofs.Common.{◌≡◌, ◌-◌, ℕ, suc, List, [], ◌∷◌, length, drop, slice_get, Option, Some, inl, inr, refl, sym, ◌∙◌, ap, subst, arith, ⊎_elim}
 use Rattle.std.specs.Prelude.{◌⊎◌}
-use Rattle.std.proofs.lemmas.List.{drop_all, take_all}
 use Rattle.arimaa_outside.specs.declared.status.Status.{Status}
 use Rattle.arimaa_outside.specs.declared.status.Status.TheVariants.{Done, Memory, WriteFault}
 use Rattle.arimaa_time.specs.Fields.{IsControl}
@@ -43,13 +42,6 @@ one_asked words a b p q =
     let controls : a.control ≡ b.control = cc in
     let counts : a.programs ≡ b.programs = sym p.count ∙ (ap (λ (l : List (List ℕ)). length l) others ∙ q.count) in
     λ i. record { control = controls i; programs = counts i }
-
--- a list in which a part that is all of it was written again
-pub refilled : {A : Type 0} (n : ℕ) (xs ys : List A) → n ≡ length xs → length ys ≡ length xs
-    → take n (ys ++ drop (length ys) xs) ≡ ys
-refilled {A} n xs ys size same =
-    ap (λ (l : List A). take n (ys ++ l)) (drop_all (length ys) xs (omega arith))
-    ∙ (ap (λ (l : List A). take n l) (append-nil ys) ∙ take_all n ys (omega arith))
 
 -- a text that was written has this status, or that of a failed write
 pub ended_done : (result : Status) (before after : Option (List ℕ)) (text : List ℕ)

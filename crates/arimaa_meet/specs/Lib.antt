@@ -5,5 +5,6 @@ pub mod Scores
 pub mod Report
 pub mod Seats
 pub mod Shares
+pub mod Workers
 pub mod Meets
 pub mod Agreement

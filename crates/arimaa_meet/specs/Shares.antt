@@ -1,7 +1,8 @@
 -- The matches that were played, what is told of them, and over whose spawners and clocks they were
 -- played.
-use Rattle.std.specs.Prelude.{◌≡◌, ◌<◌, ◌+◌, ◌%◌, ◌==◌, ℕ, List, [], ◌∷◌, Option, if◌then◌else◌, length, map, slice_index_or}
+use Rattle.std.specs.Prelude.{◌≡◌, ◌<◌, ◌+◌, ◌%◌, ◌==◌, ℕ, List, [], ◌∷◌, Option, Vec, if◌then◌else◌, length, map, slice_index_or}
 use Rattle.std.specs.List.{AllZip}
+use Rattle.std.specs.declared.alloc.Global.{Global}
 use Rattle.arimaa_outside.specs.Counts.{Counts}
 use Rattle.arimaa_outside.specs.declared.port_answer.PortAnswer.{PortAnswer}
 use Rattle.arimaa_time.specs.declared.control.Control.{Control}
@@ -20,7 +21,7 @@ pub record IsTold (m : MeetMatch) (told : Told) : Type 0 where
 
 -- the matches that are dealt to one of so many workers, where the first of these has this number:
 -- those whose number, modulo that of the workers, is its own
-abbrev pub dealt_from : ℕ → ℕ → ℕ → List MeetMatch → List MeetMatch
+abbrev pub dealt_from : {A : Type 0} → ℕ → ℕ → ℕ → List A → List A
 dealt_from number worker workers [] = []
 dealt_from number worker workers (m ∷ later) =
     if number % workers == worker
@@ -28,8 +29,24 @@ dealt_from number worker workers (m ∷ later) =
     else dealt_from (number + 1) worker workers later
 
 -- the matches of one of so many workers, where they are counted from 0
-abbrev pub dealt_to : ℕ → ℕ → List MeetMatch → List MeetMatch
+abbrev pub dealt_to : {A : Type 0} → ℕ → ℕ → List A → List A
 dealt_to worker workers matches = dealt_from 0 worker workers matches
+
+-- what is told in each worker's share is told of these matches, which are those that are dealt to it
+pub record AreShares (pairs : List Pair) (of_worker : ℕ → List MeetMatch)
+    (shares : List (Vec Told Global)) : Type 0 where
+  pub programs : (w : ℕ) → w < length shares
+      → map (λ m. m.pair) (of_worker w) ≡ dealt_to w (length shares) pairs
+  pub telling : (w : ℕ) (d : Vec Told Global) → w < length shares
+      → AllZip IsTold (of_worker w) (slice_index_or shares w d).items
+
+-- this is told of all matches, in order, of which these are dealt to each of so many workers
+pub record AreTold (pairs : List Pair) (workers : ℕ) (of_worker : ℕ → List MeetMatch)
+    (told : List Told) : Type 0 where
+  pub matches : List MeetMatch
+  pub programs : map (λ m. m.pair) matches ≡ pairs
+  pub telling : AllZip IsTold matches told
+  pub dealt : (w : ℕ) → w < workers → dealt_to w workers matches ≡ of_worker w
 
 module _ {L : Type 0} (sent : L → Option (List (List ℕ))) (answers : L → Option (List PortAnswer))
     (counts : L → Counts) where
@@ -41,7 +58,29 @@ module _ {L : Type 0} (sent : L → Option (List (List ℕ))) (answers : L → O
     pub plays : PlaysMatch sent answers counts control old new (outcome_of the_match)
     pub telling : IsTold the_match told
 
+  -- the matches of these programs that are dealt to a worker were played, and this is told of them
+  pub record HasPlayedShare (control : Control) (pairs : List Pair) (worker workers : ℕ)
+      (old new : Seat L) (told : List Told) : Type 0 where
+    pub matches : List MeetMatch
+    pub programs : map (λ m. m.pair) matches ≡ dealt_to worker workers pairs
+    pub telling : AllZip IsTold matches told
+    pub plays : PlaysMatches sent answers counts control old new (map outcome_of matches)
+
   module _ {S K : Type 0} (seat : S → K → Seat L) where
+    -- each worker played the matches that are dealt to it, over its own spawner and clock, and this
+    -- is told of them
+    pub record HavePlayedShares (control : Control) (pairs : List Pair)
+        (spawners later_spawners : List S) (clocks later_clocks : List K)
+        (shares : List (Vec Told Global)) : Type 0 where
+      pub each : (w : ℕ) (s : S) (k : K) (d : Vec Told Global) → w < length spawners
+          → HasPlayedShare control pairs w (length spawners)
+          (seat (slice_index_or spawners w s) (slice_index_or clocks w k))
+          (seat (slice_index_or later_spawners w s) (slice_index_or later_clocks w k))
+          (slice_index_or shares w d).items
+      pub share_count : length shares ≡ length spawners
+      pub spawner_count : length later_spawners ≡ length spawners
+      pub clock_count : length later_clocks ≡ length spawners
+
     -- each worker played the matches that are dealt to it, over its own spawner and clock
     abbrev pub PlayDealt : Control → List S → List S → List K → List K → List MeetMatch → Type 0
     PlayDealt control spawners later_spawners clocks later_clocks matches =

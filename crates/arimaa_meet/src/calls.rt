@@ -1,42 +1,69 @@
 //! The run of a meet.
-ghost use Rattle.std.specs.Prelude.{◌≡◌, ◌<◌, ◌≤◌, IfOk, codes, length, vec_len};
+ghost use Rattle.std.specs.Prelude.{◌≡◌, ◌<◌, ◌≤◌, IfOk, codes, vec_len};
 ghost use Rattle.arimaa_judge.specs.Texts.{line};
 ghost use Rattle.arimaa_outside.specs.declared.status.Status.TheVariants as outcome;
 ghost use Rattle.arimaa_meet.specs.declared.words.TheConstants.{MOST_PROGRAMS};
 ghost use Rattle.arimaa_meet.specs.declared.words.Asked.{Asked as Wish};
 ghost use Rattle.arimaa_meet.specs.Meets.{IsReport, MeetPlayed};
 ghost use Rattle.arimaa_meet.specs.Seats.{seat_of};
+ghost use Rattle.arimaa_meet.specs.Shares.{HavePlayed};
 ghost use Rattle.arimaa_meet.specs.Words.{AsksForMeet, AsksForNoMeet};
 ghost use Rattle.arimaa_outside.specs.Writing.{EndsWith, Outputs};
 
-use crate::meet::{Meet, play_all};
+use crate::gather::gather;
+use crate::meet::Meet;
 use crate::pairs::all_pairs;
 use crate::report::report;
+use crate::told::Told;
 use crate::words::{Asked, read_meet};
+use crate::workers::play_shares;
 use arimaa_outside::{Clock, CommandWords, Sink, Spawner, Status, write_answer};
 use std::alloc::{AllocError, Global};
+use std::thread::Threads;
+
+// Plays the matches of a meet. What is told of them stands in their order.
+fn play_all<R: Threads + Sync, S: Spawner<Link: Send> + Send + Drop, K: Clock + Send + Drop>(
+    rt: &R,
+    alloc: Global,
+    meet: &Meet,
+    spawners: &mut Vec<S>,
+    clocks: &mut Vec<K>,
+) -> Result<Vec<Told>, AllocError>
+    requires some { 0 < vec_len spawners.old }
+    requires clocks { vec_len clocks.old ≡ vec_len spawners.old }
+    requires workers { meet.now.workers ≡ vec_len spawners.old }
+    ensures { IfOk result (λ told. HavePlayed S.Link.sent S.Link.answers S.Link.counts
+        (seat_of S.waiting S.back S.answers S.counts K.given) meet.now.control
+        meet.now.pairs.items spawners.old.items spawners.new.items clocks.old.items
+        clocks.new.items told.items) }
+{
+    let shares = play_shares(rt, alloc, meet, spawners, clocks)?;
+    gather(alloc, &meet.pairs, shares)
+}
 
 // Plays a meet, and gives its report.
-fn play_meet<S: Spawner, K: Clock>(
+fn play_meet<R: Threads + Sync, S: Spawner<Link: Send> + Send + Drop, K: Clock + Send + Drop>(
+    rt: &R,
     alloc: Global,
     words: &CommandWords,
     asked: &Asked,
-    spawners: &mut [S],
-    clocks: &mut [K],
+    spawners: &mut Vec<S>,
+    clocks: &mut Vec<K>,
 ) -> Result<Vec<u8>, AllocError>
     requires programs { asked.now.programs ≤ MOST_PROGRAMS }
-    requires some { 0 < length spawners.old }
-    requires clocks { length clocks.old ≡ length spawners.old }
+    requires some { 0 < vec_len spawners.old }
+    requires clocks { vec_len clocks.old ≡ vec_len spawners.old }
     ensures { IfOk result (λ text. IsReport S.Link.sent S.Link.answers S.Link.counts
-        (seat_of S.waiting S.back S.answers S.counts K.given) asked.now
-        spawners.old spawners.new clocks.old clocks.new text.items) }
+        (seat_of S.waiting S.back S.answers S.counts K.given) asked.now spawners.old.items
+        spawners.new.items clocks.old.items clocks.new.items text.items) }
 {
     let meet = Meet {
         words,
         control: asked.control,
         pairs: all_pairs(alloc, asked.programs)?,
+        workers: spawners.len(),
     };
-    let told = play_all(alloc, &meet, &mut *spawners, &mut *clocks)?;
+    let told = play_all(rt, alloc, &meet, spawners, clocks)?;
     let text = report(alloc, asked.programs, &told)?;
     Ok(text)
 }
@@ -51,9 +78,16 @@ fn play_meet<S: Spawner, K: Clock>(
 /// losses, its matches that reached the limit of the game and its engine's faults.
 ///
 /// Match k, from 0, is played over the spawner and the clock of the worker of number k modulo that
-/// of the workers, of which there are as many as spawners. The status is 0 where the report is
-/// written, engine faults included. It waits for the engines, so it need not return.
-pub fn run_meet<O: Sink, S: Spawner, K: Clock>(
+/// of the workers, of which there are as many as spawners, each in a thread of its own. The status
+/// is 0 where the report is written, engine faults included. It waits for the engines, so it need
+/// not return.
+pub fn run_meet<
+    R: Threads + Sync,
+    O: Sink,
+    S: Spawner<Link: Send> + Send + Drop,
+    K: Clock + Send + Drop,
+>(
+    rt: &R,
     alloc: Global,
     words: &CommandWords,
     output: &mut O,
@@ -76,7 +110,7 @@ pub fn run_meet<O: Sink, S: Spawner, K: Clock>(
 {
     match read_meet(words) {
         None => write_answer(output, Status::Words, b"bad words\n"),
-        Some(asked) => match play_meet(alloc, words, &asked, spawners, clocks) {
+        Some(asked) => match play_meet(rt, alloc, words, &asked, spawners, clocks) {
             Err(_) => Status::Memory,
             Ok(text) => write_answer(output, Status::Done, &text),
         },

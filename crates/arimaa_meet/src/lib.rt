@@ -4,6 +4,7 @@
 
 mod calls;
 mod counted;
+mod gather;
 mod laws;
 mod meet;
 mod pairs;
@@ -11,6 +12,7 @@ mod report;
 mod table;
 mod told;
 mod words;
+mod workers;
 
 pub use calls::run_meet;
 pub use laws::{matches_agree, reports_agree};

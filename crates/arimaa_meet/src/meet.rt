@@ -1,8 +1,7 @@
 //! The matches of a meet.
-ghost use Rattle.std.specs.Prelude.{◌≡◌, ◌<◌, ◌≤◌, IfOk, length, vec_len};
+ghost use Rattle.std.specs.Prelude.{◌<◌, IfOk};
 ghost use Rattle.arimaa_meet.specs.Seats.{seat_of};
-ghost use Rattle.arimaa_meet.specs.Shares.{HasPlayedPair, HavePlayed};
-ghost use Rattle.arimaa_meet.specs.declared.pairs.TheConstants.{MOST_PAIRS as MOST};
+ghost use Rattle.arimaa_meet.specs.Shares.{HasPlayedPair, HasPlayedShare};
 
 use crate::counted::Counted;
 use crate::pairs::Pair;
@@ -21,6 +20,8 @@ pub(crate) struct Meet<'a> {
     pub(crate) control: Control,
     /// The matches, in order.
     pub(crate) pairs: Vec<Pair>,
+    /// How many workers there are.
+    pub(crate) workers: usize,
 }
 
 // The program of this number.
@@ -55,26 +56,27 @@ fn play_pair<S: Spawner, K: Clock>(
     }
 }
 
-/// Plays the matches in order. Match k, from 0, is played over the spawner and the clock of the
-/// worker of number k modulo that of the workers.
-pub(crate) fn play_all<S: Spawner, K: Clock>(
+/// Plays the matches that are dealt to one of the workers, one after another: those whose number,
+/// from 0, modulo that of the workers, is its own.
+pub(crate) fn play_share<S: Spawner, K: Clock>(
     alloc: Global,
     meet: &Meet,
-    spawners: &mut [S],
-    clocks: &mut [K],
+    worker: usize,
+    spawner: &mut S,
+    clock: &mut K,
 ) -> Result<Vec<Told>, AllocError>
-    requires some { 0 < length spawners.old }
-    requires clocks { length clocks.old ≡ length spawners.old }
-    requires few { vec_len meet.now.pairs ≤ MOST }
-    ensures { IfOk result (λ told. HavePlayed S.Link.sent S.Link.answers S.Link.counts
-        (seat_of S.waiting S.back S.answers S.counts K.given) meet.now.control
-        meet.now.pairs.items spawners.old spawners.new clocks.old clocks.new told.items) }
+    requires some { 0 < meet.now.workers }
+    ensures { IfOk result (λ told. HasPlayedShare S.Link.sent S.Link.answers S.Link.counts
+        meet.now.control meet.now.pairs.items worker meet.now.workers
+        (seat_of S.waiting S.back S.answers S.counts K.given spawner.old clock.old)
+        (seat_of S.waiting S.back S.answers S.counts K.given spawner.new clock.new)
+        told.items) }
 {
     let mut told = Vec::new(alloc);
     'matches: for place in 0..meet.pairs.len() {
-        let worker = place % spawners.len();
-        let spawner = &mut spawners[worker];
-        let clock = &mut clocks[worker];
+        if place % meet.workers != worker {
+            continue;
+        }
         told.push(play_pair(alloc, meet, meet.pairs[place], spawner, clock)?)?;
     }
     Ok(told)

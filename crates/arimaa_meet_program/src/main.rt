@@ -1,4 +1,5 @@
-//! `arimaa_meet`: lets each of some programs play each other one, and writes one report.
+//! `arimaa_meet`: lets each of some programs play each other one, four matches at a time, and
+//! writes one report.
 #![tactic(auto)]
 
 #[cfg(test)]
@@ -9,16 +10,22 @@ use arimaa_meet::run_meet;
 use arimaa_outside::{CommandWords, Status, StdSink};
 use std::alloc::{AllocError, Global};
 use std::io;
-use std::process::{ExitCode, Processes};
+use std::process::{ExitCode, OpenProcess, Processes};
 use std::rt::Env;
+use std::thread::Threads;
 use std::time::Clock;
 
 // Plays the meet that the words ask for, with engines as child processes and the time of the
 // system, and writes the report to standard output.
-fn answer<R: Sync + Env + AllocGlobal + Print + Processes + Clock>(
-    rt: &R,
-    alloc: Global,
-) -> Result<Status, AllocError> {
+fn answer<
+    R: Sync
+        + Env
+        + AllocGlobal
+        + Print
+        + Processes<Started: OpenProcess<Stdin: Send, Stdout: Send>>
+        + Clock
+        + Threads,
+>(rt: &R, alloc: Global) -> Result<Status, AllocError> {
     let words = CommandWords::of_program(rt)?;
     let mut output = StdSink::new(io::writer(rt));
     let mut spawners = Vec::from_array(
@@ -39,7 +46,7 @@ fn answer<R: Sync + Env + AllocGlobal + Print + Processes + Clock>(
             SystemClock::new(rt),
         ],
     )?;
-    Ok(run_meet(alloc, &words, &mut output, &mut spawners, &mut clocks))
+    Ok(run_meet(rt, alloc, &words, &mut output, &mut spawners, &mut clocks))
 }
 
 fn main(rt: HostRuntime) -> ExitCode {

@@ -1,12 +1,16 @@
 //! Meets over spawners and clocks in memory, and words that ask for none.
-ghost use Rattle.std.specs.Prelude.{IfOk};
-ghost use Rattle.arimaa_outside.specs.MemSpawner.{IsFresh};
+ghost use Rattle.std.specs.Prelude.{IfOk, Some};
+ghost use Rattle.arimaa_outside.specs.MemSpawner.{IsFresh, spawner_counts};
 
 use arimaa_meet::run_meet;
-use arimaa_outside::{Bytes, CommandWords, MemClock, MemPort, MemSink, MemSpawner, Said, Status};
+use arimaa_outside::{
+    Bytes, CommandWords, MemClock, MemPort, MemSink, MemSpawner, PortFault, Said, Spawner, Status,
+};
+use arimaa_pool::{Gate, MeetGate};
 use std::alloc::{AllocError, Global};
 use std::process::Abort;
 use std::test::Fail;
+use std::thread::Threads;
 
 // What two engines say in two matches: in the first one Silver's last answer is unlawful, in the
 // other its script ends in place of it.
@@ -114,7 +118,8 @@ fn words_of(alloc: Global, words: &str) -> Result<CommandWords, AllocError> {
 }
 
 // Runs a meet with one worker, where this write fails; 0 for none.
-fn with_one(
+fn with_one<R: Threads + Sync>(
+    rt: &R,
     alloc: Global,
     words: &str,
     spawner: MemSpawner,
@@ -124,18 +129,23 @@ fn with_one(
     let mut sink = MemSink::new(alloc, 16, vec![in alloc; failing]?);
     let mut spawners = Vec::from_array(alloc, [spawner])?;
     let mut clocks = Vec::from_array(alloc, [clock(alloc)])?;
-    let status = run_meet(alloc, &words, &mut sink, &mut spawners, &mut clocks);
+    let status = run_meet(rt, alloc, &words, &mut sink, &mut spawners, &mut clocks);
     let output = Vec::from_slice(alloc, sink.written())?;
     Ok(Done { status, output })
 }
 
 // Runs a meet with two workers.
-fn with_two(alloc: Global, words: &str, spawners: [MemSpawner; 2]) -> Result<Done, AllocError> {
+fn with_two<R: Threads + Sync, S: Spawner<Link: Send> + Send + Drop>(
+    rt: &R,
+    alloc: Global,
+    words: &str,
+    spawners: [S; 2],
+) -> Result<Done, AllocError> {
     let words = words_of(alloc, words)?;
     let mut sink = MemSink::new(alloc, 1 << 20, Vec::new(alloc));
     let mut spawners = Vec::from_array(alloc, spawners)?;
     let mut clocks = Vec::from_array(alloc, [clock(alloc), clock(alloc)])?;
-    let status = run_meet(alloc, &words, &mut sink, &mut spawners, &mut clocks);
+    let status = run_meet(rt, alloc, &words, &mut sink, &mut spawners, &mut clocks);
     let output = Vec::from_slice(alloc, sink.written())?;
     Ok(Done { status, output })
 }
@@ -149,7 +159,59 @@ fn check(rt: &impl Abort, done: &Done, status: Status, output: &str) {
 #[test]
 fn two_workers(rt: HostRuntime) -> Result<(), Fail> {
     let alloc = rt.alloc();
-    let done = with_two(alloc, "1/5 a b", [first(alloc)?, second(alloc)?])?;
+    let done = with_two(&rt, alloc, "1/5 a b", [first(alloc)?, second(alloc)?])?;
+    check(&rt, &done, Status::Done, REPORT);
+    Ok(())
+}
+
+// A spawner that waits at a gate, in each call of `open`, for that of the other match.
+#[derive(Drop)]
+struct GatedSpawner<'g> {
+    gate: &'g MeetGate,
+    number: u32,
+    inner: MemSpawner,
+}
+
+impl<'g> Spawner for GatedSpawner<'g> {
+    type Link = MemPort;
+
+    ghost waiting = { λ s. Some s.inner.waiting };
+
+    ghost back = { λ s. Some s.inner.back };
+
+    ghost answers = { λ s. Some s.inner.answers };
+
+    ghost counts = { λ s. spawner_counts s.inner };
+
+    fn open(&mut self, program: &str) -> Result<MemPort, PortFault> {
+        self.gate.enter(self.number);
+        self.inner.open(program)
+    }
+
+    fn close(&mut self, link: MemPort) {
+        self.inner.close(link)
+    }
+}
+
+// Two matches are played at a time: the spawner of each waits until the other's is called.
+#[test]
+fn matches_meet(rt: HostRuntime) -> Result<(), Fail> {
+    let alloc = rt.alloc();
+    let gate = MeetGate::new();
+    let spawners = [
+        GatedSpawner {
+            gate: &gate,
+            number: 0,
+            inner: first(alloc)?,
+        },
+        GatedSpawner {
+            gate: &gate,
+            number: 1,
+            inner: second(alloc)?,
+        },
+    ];
+    let done = with_two(&rt, alloc, "1/5 a b", spawners)?;
+    assert!(rt; !gate.starved());
     check(&rt, &done, Status::Done, REPORT);
     Ok(())
 }
@@ -157,7 +219,7 @@ fn two_workers(rt: HostRuntime) -> Result<(), Fail> {
 #[test]
 fn one_worker(rt: HostRuntime) -> Result<(), Fail> {
     let alloc = rt.alloc();
-    let done = with_one(alloc, "1/5 a b", both(alloc)?, 0)?;
+    let done = with_one(&rt, alloc, "1/5 a b", both(alloc)?, 0)?;
     check(&rt, &done, Status::Done, REPORT);
     Ok(())
 }
@@ -165,9 +227,9 @@ fn one_worker(rt: HostRuntime) -> Result<(), Fail> {
 #[test]
 fn no_program_starts(rt: HostRuntime) -> Result<(), Fail> {
     let alloc = rt.alloc();
-    let done = with_two(alloc, "1/5 a b", [none(alloc)?, none(alloc)?])?;
+    let done = with_two(&rt, alloc, "1/5 a b", [none(alloc)?, none(alloc)?])?;
     check(&rt, &done, Status::Done, UNSTARTED);
-    let done = with_one(alloc, "1/5 a b", none(alloc)?, 0)?;
+    let done = with_one(&rt, alloc, "1/5 a b", none(alloc)?, 0)?;
     check(&rt, &done, Status::Done, UNSTARTED);
     Ok(())
 }
@@ -187,7 +249,7 @@ const REFUSED: [&str; 7] = [
 fn refused_words(rt: HostRuntime) -> Result<(), Fail> {
     let alloc = rt.alloc();
     for words in REFUSED {
-        let done = with_one(alloc, words, both(alloc)?, 0)?;
+        let done = with_one(&rt, alloc, words, both(alloc)?, 0)?;
         check(&rt, &done, Status::Words, "bad words\n");
     }
     Ok(())
@@ -198,7 +260,7 @@ fn refused_words(rt: HostRuntime) -> Result<(), Fail> {
 fn failing_writes(rt: HostRuntime) -> Result<(), Fail> {
     let alloc = rt.alloc();
     for (failing, written) in [(1, 0), (2, 16), (3, 32)] {
-        let done = with_one(alloc, "1/5 a b", none(alloc)?, failing)?;
+        let done = with_one(&rt, alloc, "1/5 a b", none(alloc)?, failing)?;
         assert_eq!(rt; done.status, Status::WriteFault, "{failing}");
         assert_eq!(rt;
             Some(done.output.as_slice()),
