@@ -1,3 +1,4 @@
+pub mod FirstReplies
 pub mod Leaves
 pub mod Lists
 pub mod Looking

@@ -1,5 +1,5 @@
 -- The places of the top segment.
-use Rattle.std.proofs.Common.{◌≡◌, ℕ, ◌+◌, ◌≤◌, List, [], ◌∷◌, length, drop, Some, ◌∙◌, ap, arith, length-append}
+use Rattle.std.proofs.Common.{◌≡◌, ℕ, ◌+◌, ◌≤◌, List, [], ◌∷◌, length, drop, Some, ◌∙◌, sym, ap, arith, length-append, drop-drop}
 use Rattle.std.specs.List.{slice_get}
 use Rattle.std.proofs.Math.Seq.{drop-append_seam}
 use Rattle.std.proofs.Math.ListN.{drop_of_length-le}
@@ -11,6 +11,10 @@ module _ {X : Type 0} where
   -- they come after those of the segments below
   pub top_places : (segments : List (List X)) (qs : List X) (first : ℕ) → segments ≡ qs ∷ below_top segments → first ≡ length (live_of (below_top segments)) → drop first (live_of segments) ≡ qs
   top_places segments qs first is at = (λ i. drop (at i) (live_of (is i))) ∙ drop-append_seam (live_of (below_top segments)) qs
+
+  -- those after the first
+  pub after_first : (segments : List (List X)) (qs : List X) (first : ℕ) → segments ≡ qs ∷ below_top segments → first ≡ length (live_of (below_top segments)) → drop (first + 1) (live_of segments) ≡ drop 1 qs
+  after_first segments qs first is at = sym (drop-drop 1 first (live_of segments)) ∙ ap (drop 1) (top_places segments qs first is at)
 
   pub live-length : (segments : List (List X)) (qs : List X) (first : ℕ) → segments ≡ qs ∷ below_top segments → first ≡ length (live_of (below_top segments)) → length (live_of segments) ≡ first + length qs
   live-length segments qs first is at =

@@ -1,5 +1,5 @@
 -- The trace of a look through the next positions.
-use Rattle.std.proofs.Common.{◌≡◌, ℕ, List, [], ◌∷◌, true, false, cond, ◌⊎◌, inl, inr, ⊎_elim, sym, ap, subst, arith}
+use Rattle.std.proofs.Common.{◌≡◌, ℕ, List, [], ◌∷◌, drop, true, false, cond, ◌⊎◌, inl, inr, ⊎_elim, sym, ap, subst, arith}
 use Rattle.arimaa_board.specs.declared.piece.Color.{Color}
 use Rattle.arimaa_board.specs.declared.position.Position.{Position}
 use Rattle.arimaa_model.specs.Results.{next}
@@ -8,7 +8,7 @@ use Rattle.arimaa_model.proofs.Positions.{stands-In}
 use Rattle.arimaa_forced.specs.Search.{up_to, is_decisive, looked_at}
 use Rattle.arimaa_line.specs.Index.{place_of}
 use Rattle.arimaa_table.specs.Passes.{NoFewer}
-use Rattle.arimaa_search.specs.Traces.{Stepped, SteppedThrough}
+use Rattle.arimaa_search.specs.Traces.{GoesPast, Stepped, SteppedThrough}
 
 module _ (a : Color) (barred : List Position) (n : ℕ) (p : Position) (lines : ℕ) where
   -- these are left: of each position that is to be looked at, the pass made steps at its line, or it is one of these
@@ -45,6 +45,10 @@ module _ (a : Color) (barred : List Position) (n : ℕ) (p : Position) (lines : 
     grown = λ i. (let before = t.grown i in let more = up i in omega arith);
     traced = asked q rest start now after t up here (up_to (is_decisive a barred n p) rest) (ap (λ v. cond v [] (up_to (is_decisive a barred n p) rest)) goes);
   }
+
+  -- the first of all was not
+  pub tracing_past : (reply : Position) (start now : ℕ → ℕ) → GoesPast a barred n p reply → NoFewer start now → Stepped lines start now reply → Tracing start now (drop 1 (next barred p))
+  tracing_past reply start now past up here = tracing_more reply (drop 1 (next barred p)) start start now (subst (Tracing start start) past.0 (tracing_start start)) up here past.1
 
   -- it was
   pub tracing_decisive : (q : Position) (rest : List Position) (start now after : ℕ → ℕ) → Tracing start now (q ∷ rest) → NoFewer now after → Stepped lines now after q → is_decisive a barred n p q ≡ true → SteppedThrough a barred lines n p start after

@@ -1,4 +1,5 @@
 pub mod Workers
 pub mod Asking
 pub mod Questions
+pub mod Replies
 pub mod Traces

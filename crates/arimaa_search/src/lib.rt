@@ -2,6 +2,7 @@
 #![tactic(auto)]
 
 mod asked;
+mod first_reply;
 mod leaf;
 mod line;
 mod search;

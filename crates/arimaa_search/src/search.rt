@@ -2,12 +2,14 @@
 ghost use Rattle.std.specs.Prelude.{◌≡◌, ℕ, ◌+◌, ◌-◌, ◌<◌, ◌≤◌, ◌∷◌, suc, length, OnOk, IfOk, None};
 ghost use Rattle.arimaa_model.specs.Decided.{decided};
 ghost use Rattle.arimaa_model.specs.Results.{next};
+ghost use Rattle.arimaa_forced.specs.Search.{cost};
 ghost use Rattle.arimaa_region.specs.Segments.{live_of, below_top};
 ghost use Rattle.arimaa_line.specs.Index.{place_of};
 ghost use Rattle.arimaa_table.specs.Passes.{lines_of, setting_of, steps_of, place_view, IsPassOf, KeepsNoOlder, NoFewer};
 ghost use Rattle.arimaa_search.specs.Asking.{Answered};
-ghost use Rattle.arimaa_search.specs.Traces.{Stepped, SteppedThrough, Tells};
+ghost use Rattle.arimaa_search.specs.Traces.{GoesPast, Stepped, SteppedThrough, Tells};
 
+use crate::first_reply::first_reply;
 use crate::leaf::leaf;
 use crate::line::{recall, remember};
 use crate::stop::Stop;
@@ -81,21 +83,58 @@ fn open_up(
     if depth == 0 {
         return Ok(leaf(table, p));
     }
+    look_through(table, pass, region, left, p, depth - 1)
+}
+
+// Asks about the next positions of an undecided position in order, up to the first that is decisive.
+// Most looks end at the first of all, so the list of them is made only where this one goes on.
+#[cycle(search)]
+fn look_through(
+    table: &Table,
+    pass: &mut TablePass,
+    region: &mut Region,
+    left: &mut u64,
+    p: &Position,
+    depth: u8,
+) -> Result<bool, Stop>
+    requires pass { IsPassOf table.now pass.old }
+    requires segments { length region.old.segments + suc depth < 64 }
+    requires depth { depth < 20 }
+    requires undecided { decided p.now ≡ None }
+    ensures pass { IsPassOf table.now pass.new }
+    ensures later { KeepsNoOlder pass.old pass.new }
+    ensures grown { NoFewer (steps_of pass.old) (steps_of pass.new) }
+    ensures segments { region.new.segments ≡ region.old.segments }
+    ensures room { region.new.room ≡ region.old.room }
+    ensures spent { left.new ≤ left.old }
+    ensures replies { OnOk result (SteppedThrough (setting_of table.now).attacker (setting_of table.now).barred (lines_of table.now) depth p.now (steps_of pass.old) (steps_of pass.new)) }
+    ensures answer { Answered (setting_of table.now).attacker (setting_of table.now).barred (suc depth) p.now region.old.room (length (live_of region.old.segments)) (left.old + 1) left.new result }
+{
+    let own = p.side == table.attacker();
+    let barred = table.barred();
+    let Some(reply) = first_reply(p, barred) else {
+        return Ok(!own);
+    };
+    let won = ask(table, pass, region, left, &reply, depth)?;
+    if won == own {
+        return Ok(own);
+    }
     let first = region.live();
-    match results(p, table.barred(), region) {
+    match results(p, barred, region) {
         Err(_) => Err(Stop::Crowded),
         Ok(mark) => {
-            let answer = look_through(table, pass, region, left, p, first, depth - 1);
+            let answer = look_on(table, pass, region, left, p, first, depth);
             region.release(mark);
             answer
         }
     }
 }
 
-// Asks about the positions of the top segment in order, which are the next ones of an undecided
-// position, up to the first that is decisive.
+// Asks about the positions of the top segment after the first, in order, up to the first that is
+// decisive. They are the next ones of an undecided position, and the first of them was asked about
+// and is not decisive.
 #[cycle(search)]
-fn look_through(
+fn look_on(
     table: &Table,
     pass: &mut TablePass,
     region: &mut Region,
@@ -110,17 +149,19 @@ fn look_through(
     requires undecided { decided p.now ≡ None }
     requires places { region.old.segments ≡ next (setting_of table.now).barred p.now ∷ below_top region.old.segments }
     requires first { first ≡ length (live_of (below_top region.old.segments)) }
+    requires some { 1 ≤ length (next (setting_of table.now).barred p.now) }
     ensures pass { IsPassOf table.now pass.new }
     ensures later { KeepsNoOlder pass.old pass.new }
     ensures grown { NoFewer (steps_of pass.old) (steps_of pass.new) }
     ensures segments { region.new.segments ≡ region.old.segments }
     ensures room { region.new.room ≡ region.old.room }
     ensures spent { left.new ≤ left.old }
-    ensures replies { OnOk result (SteppedThrough (setting_of table.now).attacker (setting_of table.now).barred (lines_of table.now) depth p.now (steps_of pass.old) (steps_of pass.new)) }
-    ensures answer { Answered (setting_of table.now).attacker (setting_of table.now).barred (suc depth) p.now region.old.room first (left.old + 1) left.new result }
+    ensures replies { (reply : Position) (began : ℕ → ℕ) → GoesPast (setting_of table.now).attacker (setting_of table.now).barred depth p.now reply → NoFewer began (steps_of pass.old) → Stepped (lines_of table.now) began (steps_of pass.old) reply → OnOk result (SteppedThrough (setting_of table.now).attacker (setting_of table.now).barred (lines_of table.now) depth p.now began (steps_of pass.new)) }
+    ensures answer { (reply : Position) → GoesPast (setting_of table.now).attacker (setting_of table.now).barred depth p.now reply → Answered (setting_of table.now).attacker (setting_of table.now).barred (suc depth) p.now region.old.room first (left.old + cost (setting_of table.now).attacker (setting_of table.now).barred depth reply + 1) left.new result }
 {
     let own = p.side == table.attacker();
-    for place in first..region.live() {
+    let end = region.live();
+    for place in first + 1..end {
         let q = region.get(place);
         let won = ask(table, pass, region, left, &q, depth)?;
         if won == own {

@@ -1,23 +1,23 @@
-use Rattle.std.proofs.Common.{rules, ◌≡◌, ℕ, suc, ◌+◌, ◌-◌, ◌≤◌, Bool, true, false, cond, not, None, Some, Err, List, [], drop, length, refl, sym, ap, subst, ◌∙◌, arith}
+use Rattle.std.proofs.Common.{rules, ◌≡◌, ℕ, suc, ◌+◌, ◌≤◌, Bool, true, false, cond, not, Option, Some, Err, List, [], ◌∷◌, drop, length, refl, sym, ap, subst, ◌∙◌, arith}
 use mathlib.Core.Bool.{beq}
+use Rattle.std.specs.Prelude.{IfNone}
 use Rattle.std.specs.List.{slice_get}
 use Rattle.std.proofs.lemmas.Result.{err_from_is_err_and}
 use Rattle.arimaa_board.specs.declared.piece.Color.{Color}
 use Rattle.arimaa_board.specs.Board.{same_color}
 use Rattle.arimaa_board.specs.declared.position.Position.{Position}
-use Rattle.arimaa_model.specs.Decided.{decided}
 use Rattle.arimaa_model.specs.Results.{next}
 use Rattle.arimaa_model.specs.Wins.{wins}
 use Rattle.arimaa_model.proofs.WinsLaws.{wins-decided}
 use Rattle.arimaa_region.specs.Segments.{live_of}
 use Rattle.arimaa_table.specs.Passes.{setting_of, lines_of, steps_of}
-use Rattle.arimaa_forced.specs.Search.{is_decisive, crowd}
+use Rattle.arimaa_forced.specs.Search.{is_decisive, cost}
 use Rattle.arimaa_forced.proofs.Deeper.{cost-some, crowd-deeper}
-use Rattle.arimaa_forced.proofs.Midst.{Midst, midst-more}
+use Rattle.arimaa_forced.proofs.Midst.{Midst, midst-start, midst-more, midst-paid}
 use Rattle.arimaa_search.specs.Asking.{Answered}
-use Rattle.arimaa_search.proofs.Lists.{live-length, first_left, none_left}
-use Rattle.arimaa_search.proofs.Looking.{decisive-answer, end-answer, stopped-answer, decisive-by}
-use Rattle.arimaa_search.proofs.Tracing.{Tracing, tracing_more, tracing_decisive, tracing_end}
+use Rattle.arimaa_search.proofs.Lists.{after_first, live-length, first_left, none_left}
+use Rattle.arimaa_search.proofs.Looking.{decisive-answer, end-answer, stopped-answer, early-answer, midst-past, decisive-by}
+use Rattle.arimaa_search.proofs.Tracing.{Tracing, tracing_start, tracing_more, tracing_past, tracing_decisive, tracing_end}
 use Rattle.arimaa_search.proofs.search.+search.Goals as goal
 
 pub open_up-returns-then-left-eq0-clause-answer : goal.open_up-returns-then-left-eq0-clause-answer
@@ -39,92 +39,173 @@ open_up-returns-then-depth-eq0-clause-answer t c =
     let some = cost-some a barred c.args.p.now c.args.depth in
     (c.leaf.ensures ∙ ap (λ n. wins a barred n c.args.p.now) (sym c.if-depth-eq0.true), record { falls = omega arith; most = omega arith })
 
-pub open_up-returns-in-Err-clause-answer : goal.open_up-returns-in-Err-clause-answer
-open_up-returns-in-Err-clause-answer t c =
+pub look_on-loop-place-init : goal.look_on-loop-place-init
+look_on-loop-place-init t c =
     let a = (setting_of c.args.table.now).attacker in let barred = (setting_of c.args.table.now).barred in
-    let some = cost-some a barred c.args.p.now c.args.depth in
-    let undecided : decided c.args.p.now ≡ None = sym c.decided.ensures ∙ c.in_default.is in
-    let deep : suc (c.args.depth - 1) ≡ c.args.depth = omega arith in
-    let wide = ap (λ n. crowd barred n c.args.p.now) (sym deep) ∙ crowd-deeper barred c.args.p.now (c.args.depth - 1) undecided in
-    let list = ap (λ qs. length (next qs c.args.p.now)) c.barred.ensures in
-    let full = c.in-Err.ensures.full in
-    (omega arith, record { falls = omega arith; most = omega arith })
+    let xs = live_of c.args.region.now.segments in
+    let after : drop (c.args.first + 1) xs ≡ drop 1 (next barred c.args.p.now) = after_first c.args.region.now.segments (next barred c.args.p.now) c.args.first c.requires.places c.requires.first in
+    record {
+      own_pass = c.requires.pass;
+      later = λ i. (omega arith, λ _. refl);
+      grown = λ i. omega arith;
+      segments = refl;
+      room = refl;
+      spent = omega arith;
+      midst = λ reply past. subst (λ rest. Midst a barred c.args.depth c.args.p.now rest (c.args.left.now + cost a barred c.args.depth reply) c.args.left.now) (sym after) (midst-past a barred c.args.depth c.args.p.now reply c.args.left.now past);
+      tracing = λ reply began past up stepped. subst (Tracing a barred c.args.depth c.args.p.now (lines_of c.args.table.now) began (steps_of c.args.pass.now)) (sym after) (tracing_past a barred c.args.depth c.args.p.now (lines_of c.args.table.now) reply began (steps_of c.args.pass.now) past up stepped);
+    }
 
-pub look_through-returns-in_err-won-clause-answer : goal.look_through-returns-in_err-won-clause-answer
-look_through-returns-in_err-won-clause-answer t c =
+pub look_on-returns-in_err-won-clause-answer : goal.look_on-returns-in_err-won-clause-answer
+look_on-returns-in_err-won-clause-answer t c =
     let a = (setting_of c.args.table.now).attacker in let barred = (setting_of c.args.table.now).barred in
+    λ reply past.
     let xs = live_of c.args.region.now.segments in
     let raised = err_from_is_err_and c.from_residual.result c.from_residual.ensures.1 in
     let same : c.ask.result ≡ c.from_residual.result = c.in_err-won.was ∙ (sym (ap Err raised.2) ∙ sym raised.1) in
     let there : slice_get xs c.loop-place.place ≡ Some c.get-q.result = ap (λ s. slice_get (live_of s) c.loop-place.place) (sym c.loop-place.invariant.segments) ∙ c.get-q.ensures in
-    let m = subst (λ rest. Midst a barred c.args.depth c.args.p.now rest c.args.left.now c.loop-place.left) (first_left xs c.loop-place.place c.get-q.result there) c.loop-place.invariant.midst in
+    let m = subst (λ rest. Midst a barred c.args.depth c.args.p.now rest (c.args.left.now + cost a barred c.args.depth reply) c.loop-place.left) (first_left xs c.loop-place.place c.get-q.result there) (c.loop-place.invariant.midst reply past) in
     let held : length (live_of c.loop-place.region.segments) ≡ c.args.first + length (next barred c.args.p.now) = ap (λ s. length (live_of s)) c.loop-place.invariant.segments ∙ live-length c.args.region.now.segments (next barred c.args.p.now) c.args.first c.requires.places c.requires.first in
-    subst (λ r. Answered a barred (suc c.args.depth) c.args.p.now c.args.region.now.room c.args.first (c.args.left.now + 1) c.ask.new.left r) same
-    (stopped-answer a barred c.args.depth c.args.p.now c.args.region.now.room c.args.first c.ask.result c.in_err-won.field-0.0 c.loop-place.region.room _ c.get-q.result _ c.args.left.now c.loop-place.left c.ask.new.left m c.requires.undecided c.in_err-won.was c.loop-place.invariant.room held c.ask.ensures.answer)
+    subst (λ r. Answered a barred (suc c.args.depth) c.args.p.now c.args.region.now.room c.args.first (c.args.left.now + cost a barred c.args.depth reply + 1) c.ask.new.left r) same
+    (stopped-answer a barred c.args.depth c.args.p.now c.args.region.now.room c.args.first c.ask.result c.in_err-won.field-0.0 c.loop-place.region.room _ c.get-q.result _ (c.args.left.now + cost a barred c.args.depth reply) c.loop-place.left c.ask.new.left m c.requires.undecided c.in_err-won.was c.loop-place.invariant.room held c.ask.ensures.answer)
 
 -- the verdict that was heard is that of the first position left
 verdict-ends : (a : Color) (barred : List Position) (depth : ℕ) (p q : Position) (own won ends : Bool) → own ≡ same_color p.side a → won ≡ wins a barred depth q → beq won own ≡ ends → is_decisive a barred depth p q ≡ ends
 verdict-ends a barred depth p q own won ends mine heard is = (λ i. cond (sym mine i) (sym heard i) (not (sym heard i))) ∙ (decisive-by own won ∙ is)
 
-pub look_through-returns-then-won-own-clause-replies : goal.look_through-returns-then-won-own-clause-replies
-look_through-returns-then-won-own-clause-replies t c =
+pub look_on-returns-then-won-own-clause-replies : goal.look_on-returns-then-won-own-clause-replies
+look_on-returns-then-won-own-clause-replies t c =
     let a = (setting_of c.args.table.now).attacker in let barred = (setting_of c.args.table.now).barred in
+    λ reply began past up here.
     let xs = live_of c.args.region.now.segments in
     let side : c.eq-own.result ≡ same_color c.args.p.now.side c.attacker.result = search rules in
     let ends = verdict-ends a barred c.args.depth c.args.p.now c.get-q.result c.eq-own.result c.in_ok-won.won true (side ∙ ap (same_color c.args.p.now.side) c.attacker.ensures) c.in_ok-won.ensures.answer.0 c.if-won-own.true in
     let there : slice_get xs c.loop-place.place ≡ Some c.get-q.result = ap (λ s. slice_get (live_of s) c.loop-place.place) (sym c.loop-place.invariant.segments) ∙ c.get-q.ensures in
-    let trace = subst (Tracing a barred c.args.depth c.args.p.now (lines_of c.args.table.now) (steps_of c.args.pass.now) (steps_of c.loop-place.pass)) (first_left xs c.loop-place.place c.get-q.result there) c.loop-place.invariant.tracing in
-    tracing_decisive a barred c.args.depth c.args.p.now (lines_of c.args.table.now) c.get-q.result _ (steps_of c.args.pass.now) (steps_of c.loop-place.pass) (steps_of c.ask.new.pass) trace c.ask.ensures.grown c.ask.ensures.here ends
+    let trace = subst (Tracing a barred c.args.depth c.args.p.now (lines_of c.args.table.now) began (steps_of c.loop-place.pass)) (first_left xs c.loop-place.place c.get-q.result there) (c.loop-place.invariant.tracing reply began past up here) in
+    tracing_decisive a barred c.args.depth c.args.p.now (lines_of c.args.table.now) c.get-q.result _ began (steps_of c.loop-place.pass) (steps_of c.ask.new.pass) trace c.ask.ensures.grown c.ask.ensures.here ends
 
-pub look_through-returns-then-won-own-clause-answer : goal.look_through-returns-then-won-own-clause-answer
-look_through-returns-then-won-own-clause-answer t c =
+pub look_on-returns-then-won-own-clause-answer : goal.look_on-returns-then-won-own-clause-answer
+look_on-returns-then-won-own-clause-answer t c =
     let a = (setting_of c.args.table.now).attacker in let barred = (setting_of c.args.table.now).barred in
+    λ reply past.
     let xs = live_of c.args.region.now.segments in
     let side : c.eq-own.result ≡ same_color c.args.p.now.side c.attacker.result = search rules in
     let mine = side ∙ ap (same_color c.args.p.now.side) c.attacker.ensures in
     let ends = verdict-ends a barred c.args.depth c.args.p.now c.get-q.result c.eq-own.result c.in_ok-won.won true mine c.in_ok-won.ensures.answer.0 c.if-won-own.true in
     let there : slice_get xs c.loop-place.place ≡ Some c.get-q.result = ap (λ s. slice_get (live_of s) c.loop-place.place) (sym c.loop-place.invariant.segments) ∙ c.get-q.ensures in
-    let m = subst (λ rest. Midst a barred c.args.depth c.args.p.now rest c.args.left.now c.loop-place.left) (first_left xs c.loop-place.place c.get-q.result there) c.loop-place.invariant.midst in
-    let answer = decisive-answer a barred c.args.depth c.args.p.now c.args.region.now.room c.args.first c.get-q.result _ c.args.left.now c.loop-place.left c.ask.new.left m c.requires.undecided c.in_ok-won.ensures.answer.1 ends in
+    let m = subst (λ rest. Midst a barred c.args.depth c.args.p.now rest (c.args.left.now + cost a barred c.args.depth reply) c.loop-place.left) (first_left xs c.loop-place.place c.get-q.result there) (c.loop-place.invariant.midst reply past) in
+    let answer = decisive-answer a barred c.args.depth c.args.p.now c.args.region.now.room c.args.first c.get-q.result _ (c.args.left.now + cost a barred c.args.depth reply) c.loop-place.left c.ask.new.left m c.requires.undecided c.in_ok-won.ensures.answer.1 ends in
     (mine ∙ answer.0, answer.1)
 
-pub look_through-loop-place-preserved : goal.look_through-loop-place-preserved
-look_through-loop-place-preserved t c =
+pub look_on-loop-place-preserved : goal.look_on-loop-place-preserved
+look_on-loop-place-preserved t c =
     let a = (setting_of c.args.table.now).attacker in let barred = (setting_of c.args.table.now).barred in
     let xs = live_of c.args.region.now.segments in
     let side : c.eq-own.result ≡ same_color c.args.p.now.side c.attacker.result = search rules in
     let goes = verdict-ends a barred c.args.depth c.args.p.now c.get-q.result c.eq-own.result c.in_ok-won.won false (side ∙ ap (same_color c.args.p.now.side) c.attacker.ensures) c.in_ok-won.ensures.answer.0 c.if-won-own.false in
     let there : slice_get xs c.loop-place.place ≡ Some c.get-q.result = ap (λ s. slice_get (live_of s) c.loop-place.place) (sym c.loop-place.invariant.segments) ∙ c.get-q.ensures in
     let here = first_left xs c.loop-place.place c.get-q.result there in
-    let m = subst (λ rest. Midst a barred c.args.depth c.args.p.now rest c.args.left.now c.loop-place.left) here c.loop-place.invariant.midst in
-    let trace = subst (Tracing a barred c.args.depth c.args.p.now (lines_of c.args.table.now) (steps_of c.args.pass.now) (steps_of c.loop-place.pass)) here c.loop-place.invariant.tracing in
     let paid = c.in_ok-won.ensures.answer.1 in
     record {
       own_pass = search rules;
       later = search rules;
+      grown = λ i. (let before = c.loop-place.invariant.grown i in let more = c.ask.ensures.grown i in omega arith);
       segments = search rules;
       room = search rules;
-      midst = midst-more a barred c.args.depth c.args.p.now c.get-q.result _ c.args.left.now c.loop-place.left c.ask.new.left m paid.falls paid.most goes;
-      tracing = tracing_more a barred c.args.depth c.args.p.now (lines_of c.args.table.now) c.get-q.result _ (steps_of c.args.pass.now) (steps_of c.loop-place.pass) (steps_of c.ask.new.pass) trace c.ask.ensures.grown c.ask.ensures.here goes;
+      spent = (let before = c.loop-place.invariant.spent in let falls = paid.falls in omega arith);
+      midst = λ reply past.
+          (let m = subst (λ rest. Midst a barred c.args.depth c.args.p.now rest (c.args.left.now + cost a barred c.args.depth reply) c.loop-place.left) here (c.loop-place.invariant.midst reply past) in
+          midst-more a barred c.args.depth c.args.p.now c.get-q.result _ (c.args.left.now + cost a barred c.args.depth reply) c.loop-place.left c.ask.new.left m paid.falls paid.most goes);
+      tracing = λ reply began past up stepped.
+          (let trace = subst (Tracing a barred c.args.depth c.args.p.now (lines_of c.args.table.now) began (steps_of c.loop-place.pass)) here (c.loop-place.invariant.tracing reply began past up stepped) in
+          tracing_more a barred c.args.depth c.args.p.now (lines_of c.args.table.now) c.get-q.result _ began (steps_of c.loop-place.pass) (steps_of c.ask.new.pass) trace c.ask.ensures.grown c.ask.ensures.here goes);
     }
 
 -- no position is left
 past_end : (now old : List (List Position)) (place end : ℕ) → now ≡ old → end ≡ length (live_of now) → end ≤ place → drop place (live_of old) ≡ []
 past_end now old place end same is past = none_left (live_of old) place end (is ∙ ap (λ s. length (live_of s)) same) past
 
-pub look_through-returns-clause-replies : goal.look_through-returns-clause-replies
-look_through-returns-clause-replies t c =
+pub look_on-returns-clause-replies : goal.look_on-returns-clause-replies
+look_on-returns-clause-replies t c =
     let a = (setting_of c.args.table.now).attacker in let barred = (setting_of c.args.table.now).barred in
-    let none = past_end c.args.region.now.segments c.args.region.now.segments c.loop-place.place c.live-place-end.result refl c.live-place-end.ensures.count c.loop-place-test.false in
-    tracing_end a barred c.args.depth c.args.p.now (lines_of c.args.table.now) (steps_of c.args.pass.now) (steps_of c.loop-place.pass)
-    (subst (Tracing a barred c.args.depth c.args.p.now (lines_of c.args.table.now) (steps_of c.args.pass.now) (steps_of c.loop-place.pass)) none c.loop-place.invariant.tracing)
+    λ reply began past up here.
+    let none = past_end c.args.region.now.segments c.args.region.now.segments c.loop-place.place c.live-end.result refl c.live-end.ensures.count c.loop-place-test.false in
+    tracing_end a barred c.args.depth c.args.p.now (lines_of c.args.table.now) began (steps_of c.loop-place.pass)
+    (subst (Tracing a barred c.args.depth c.args.p.now (lines_of c.args.table.now) began (steps_of c.loop-place.pass)) none (c.loop-place.invariant.tracing reply began past up here))
 
-pub look_through-returns-clause-answer : goal.look_through-returns-clause-answer
-look_through-returns-clause-answer t c =
+pub look_on-returns-clause-answer : goal.look_on-returns-clause-answer
+look_on-returns-clause-answer t c =
+    let a = (setting_of c.args.table.now).attacker in let barred = (setting_of c.args.table.now).barred in
+    λ reply past.
+    let side : c.eq-own.result ≡ same_color c.args.p.now.side c.attacker.result = search rules in
+    let mine = side ∙ ap (same_color c.args.p.now.side) c.attacker.ensures in
+    let none = past_end c.args.region.now.segments c.args.region.now.segments c.loop-place.place c.live-end.result refl c.live-end.ensures.count c.loop-place-test.false in
+    let m = subst (λ rest. Midst a barred c.args.depth c.args.p.now rest (c.args.left.now + cost a barred c.args.depth reply) c.loop-place.left) none (c.loop-place.invariant.midst reply past) in
+    let answer = end-answer a barred c.args.depth c.args.p.now c.args.region.now.room c.args.first (c.args.left.now + cost a barred c.args.depth reply) c.loop-place.left m c.requires.undecided in
+    (ap not mine ∙ answer.0, answer.1)
+
+-- the first of the next positions, for the barred positions of the table
+first-for : (now barred : List Position) (p q : Position) → now ≡ barred → next now p ≡ q ∷ drop 1 (next now p) → next barred p ≡ q ∷ drop 1 (next barred p)
+first-for now barred p q same first = subst (λ (qs : List Position). next qs p ≡ q ∷ drop 1 (next qs p)) same first
+
+none-for : (now barred : List Position) (p : Position) → now ≡ barred → next now p ≡ [] → next barred p ≡ []
+none-for now barred p same none = ap (λ (qs : List Position). next qs p) (sym same) ∙ none
+
+midst-first : (a : Color) (barred : List Position) (n : ℕ) (p q : Position) (left : ℕ) → next barred p ≡ q ∷ drop 1 (next barred p) → Midst a barred n p (q ∷ drop 1 (next barred p)) left left
+midst-first a barred n p q left first = subst (λ (rest : List Position). Midst a barred n p rest left left) first (midst-start a barred n p left)
+
+pub look_through-returns-in_default-clause-answer : goal.look_through-returns-in_default-clause-answer
+look_through-returns-in_default-clause-answer t c =
     let a = (setting_of c.args.table.now).attacker in let barred = (setting_of c.args.table.now).barred in
     let side : c.eq-own.result ≡ same_color c.args.p.now.side c.attacker.result = search rules in
     let mine = side ∙ ap (same_color c.args.p.now.side) c.attacker.ensures in
-    let none = past_end c.args.region.now.segments c.args.region.now.segments c.loop-place.place c.live-place-end.result refl c.live-place-end.ensures.count c.loop-place-test.false in
-    let m = subst (λ rest. Midst a barred c.args.depth c.args.p.now rest c.args.left.now c.loop-place.left) none c.loop-place.invariant.midst in
-    let answer = end-answer a barred c.args.depth c.args.p.now c.args.region.now.room c.args.first c.args.left.now c.loop-place.left m c.requires.undecided in
+    let empty = none-for c.barred-barred.result.now barred c.args.p.now c.barred-barred.ensures (subst (λ (o : Option Position). IfNone o (next c.barred-barred.result.now c.args.p.now ≡ [])) c.in_default.is c.first_reply.ensures.none) in
+    let m = subst (λ (rest : List Position). Midst a barred c.args.depth c.args.p.now rest c.args.left.now c.args.left.now) empty (midst-start a barred c.args.depth c.args.p.now c.args.left.now) in
+    let answer = end-answer a barred c.args.depth c.args.p.now c.args.region.now.room 0 c.args.left.now c.args.left.now m c.requires.undecided in
     (ap not mine ∙ answer.0, answer.1)
+
+pub look_through-returns-in_err-won-clause-answer : goal.look_through-returns-in_err-won-clause-answer
+look_through-returns-in_err-won-clause-answer t c =
+    let a = (setting_of c.args.table.now).attacker in let barred = (setting_of c.args.table.now).barred in
+    let live = length (live_of c.args.region.now.segments) in
+    let raised = err_from_is_err_and c.from_residual.result c.from_residual.ensures.1 in
+    let same : c.ask.result ≡ c.from_residual.result = c.in_err-won.was ∙ (sym (ap Err raised.2) ∙ sym raised.1) in
+    let first = first-for c.barred-barred.result.now barred c.args.p.now c.in-Some.reply c.barred-barred.ensures c.in-Some.ensures.first in
+    let m = midst-first a barred c.args.depth c.args.p.now c.in-Some.reply c.args.left.now first in
+    subst (λ r. Answered a barred (suc c.args.depth) c.args.p.now c.args.region.now.room live (c.args.left.now + 1) c.ask.new.left r) same
+    (early-answer a barred c.args.depth c.args.p.now c.args.region.now.room live c.ask.result c.in_err-won.field-0.0 c.in-Some.reply (drop 1 (next barred c.args.p.now)) c.args.left.now c.ask.new.left m c.requires.undecided c.in_err-won.was c.ask.ensures.answer)
+
+pub look_through-returns-then-won-own-clause-replies : goal.look_through-returns-then-won-own-clause-replies
+look_through-returns-then-won-own-clause-replies t c =
+    let a = (setting_of c.args.table.now).attacker in let barred = (setting_of c.args.table.now).barred in
+    let side : c.eq-own.result ≡ same_color c.args.p.now.side c.attacker.result = search rules in
+    let ends = verdict-ends a barred c.args.depth c.args.p.now c.in-Some.reply c.eq-own.result c.in_ok-won.won true (side ∙ ap (same_color c.args.p.now.side) c.attacker.ensures) c.in_ok-won.ensures.answer.0 c.if-won-own.true in
+    let first = first-for c.barred-barred.result.now barred c.args.p.now c.in-Some.reply c.barred-barred.ensures c.in-Some.ensures.first in
+    let start = steps_of c.args.pass.now in
+    let trace = subst (Tracing a barred c.args.depth c.args.p.now (lines_of c.args.table.now) start start) first (tracing_start a barred c.args.depth c.args.p.now (lines_of c.args.table.now) start) in
+    tracing_decisive a barred c.args.depth c.args.p.now (lines_of c.args.table.now) c.in-Some.reply (drop 1 (next barred c.args.p.now)) start start (steps_of c.ask.new.pass) trace c.ask.ensures.grown c.ask.ensures.here ends
+
+pub look_through-returns-then-won-own-clause-answer : goal.look_through-returns-then-won-own-clause-answer
+look_through-returns-then-won-own-clause-answer t c =
+    let a = (setting_of c.args.table.now).attacker in let barred = (setting_of c.args.table.now).barred in
+    let side : c.eq-own.result ≡ same_color c.args.p.now.side c.attacker.result = search rules in
+    let mine = side ∙ ap (same_color c.args.p.now.side) c.attacker.ensures in
+    let ends = verdict-ends a barred c.args.depth c.args.p.now c.in-Some.reply c.eq-own.result c.in_ok-won.won true mine c.in_ok-won.ensures.answer.0 c.if-won-own.true in
+    let first = first-for c.barred-barred.result.now barred c.args.p.now c.in-Some.reply c.barred-barred.ensures c.in-Some.ensures.first in
+    let m = midst-first a barred c.args.depth c.args.p.now c.in-Some.reply c.args.left.now first in
+    let answer = decisive-answer a barred c.args.depth c.args.p.now c.args.region.now.room 0 c.in-Some.reply (drop 1 (next barred c.args.p.now)) c.args.left.now c.args.left.now c.ask.new.left m c.requires.undecided c.in_ok-won.ensures.answer.1 ends in
+    (mine ∙ answer.0, answer.1)
+
+pub look_through-returns-in-Err-clause-answer : goal.look_through-returns-in-Err-clause-answer
+look_through-returns-in-Err-clause-answer t c =
+    let a = (setting_of c.args.table.now).attacker in let barred = (setting_of c.args.table.now).barred in
+    let first = first-for c.barred-barred.result.now barred c.args.p.now c.in-Some.reply c.barred-barred.ensures c.in-Some.ensures.first in
+    let m = midst-first a barred c.args.depth c.args.p.now c.in-Some.reply c.args.left.now first in
+    let paid = c.in_ok-won.ensures.answer.1 in
+    let falls = paid.falls in
+    let whole = midst-paid a barred c.args.depth c.args.p.now c.in-Some.reply (drop 1 (next barred c.args.p.now)) c.args.left.now c.args.left.now c.ask.new.left m c.requires.undecided paid.most in
+    let wide = crowd-deeper barred c.args.p.now c.args.depth c.requires.undecided in
+    let list = ap (λ (qs : List Position). length (next qs c.args.p.now)) c.barred-barred.ensures in
+    let held = ap (λ (s : List (List Position)). length (live_of s)) c.ask.ensures.segments in
+    let room = c.ask.ensures.room in
+    let full = c.in-Err.ensures.full in
+    (omega arith, record { falls = omega arith; most = omega arith })
