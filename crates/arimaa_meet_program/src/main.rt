@@ -22,7 +22,7 @@ fn answer<
         + Env
         + AllocGlobal
         + Print
-        + Processes<Started: OpenProcess<Stdin: Send, Stdout: Send>>
+        + Processes<Started: Send + OpenProcess<Stdin: Send, Stdout: Send, Stderr: Send>>
         + Clock
         + Threads,
 >(rt: &R, alloc: Global) -> Result<Status, AllocError> {
