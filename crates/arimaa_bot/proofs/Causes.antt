@@ -1,5 +1,5 @@
 -- What a port counted, call after call.
-use Rattle.std.proofs.Common.{◌≡◌, ◌∙◌, ◌+◌, ◌-◌, ◌^◌, ◌≤◌, ℕ, arith, le_trans, subst}
+use Rattle.std.proofs.Common.{◌≡◌, ◌+◌, ◌-◌, ◌^◌, ◌≤◌, ℕ, arith, le_trans, subst}
 use Rattle.std.specs.Prelude.{min}
 use Rattle.arimaa_outside.specs.Counts.{Counts, NeverFall}
 use Rattle.arimaa_outside.specs.Faults.{HasRisen}

@@ -1,9 +1,9 @@
 -- A line that is heard and replied to, or that ends the session.
-use Rattle.std.proofs.Common.{◌≡◌, ◌∙◌, ◌++◌, ℕ, List, [], ◌∷◌, Result, Ok, Err, refl, subst}
+use Rattle.std.proofs.Common.{◌≡◌, ◌∙◌, ◌++◌, ℕ, List, [], ◌∷◌, Ok, Err, refl, subst}
 use Rattle.std.proofs.lemmas.List.{append-nil}
 use Rattle.arimaa_aei.specs.Commands.{command_of}
 use Rattle.arimaa_aei.specs.declared.command.Command.TheVariants as command
-use Rattle.arimaa_outside.specs.Counts.{Counts, NeverFall}
+use Rattle.arimaa_outside.specs.Counts.{Counts}
 use Rattle.arimaa_outside.specs.declared.port_answer.PortAnswer.{PortAnswer}
 use Rattle.arimaa_outside.specs.declared.port_answer.PortAnswer.TheVariants as answer
 use Rattle.arimaa_outside.specs.declared.port_fault.PortFault.{PortFault}
@@ -11,10 +11,10 @@ use Rattle.arimaa_outside.specs.declared.port_fault.PortFault.TheVariants as por
 use Rattle.arimaa_outside.specs.declared.said.Said.TheVariants as said
 use Rattle.arimaa_bot.specs.declared.bot_end.BotEnd.{BotEnd}
 use Rattle.arimaa_bot.specs.declared.bot_end.BotEnd.TheVariants as end
-use Rattle.arimaa_bot.specs.declared.options.Lookahead.{Lookahead}
+use Rattle.arimaa_bot.specs.declared.lookahead.Lookahead.{Lookahead}
 use Rattle.arimaa_bot.specs.declared.reply.Reply.{Reply}
 use Rattle.arimaa_bot.specs.declared.stage.Stage.{Stage}
-use Rattle.arimaa_bot.specs.Calls.{HasEnded, HasFailed, HeardSo, IsCauseOf, IsDealt, IsRepliedTo, Passed, Told, WereSent, end_of}
+use Rattle.arimaa_bot.specs.Calls.{HasEnded, HasFailed, HeardSo, IsCauseOf, IsRepliedTo, Passed, Told, WereSent, end_of}
 use Rattle.arimaa_bot.specs.Replies.{lines_of}
 use Rattle.arimaa_bot.specs.Stages.{stage_after}
 use Rattle.arimaa_bot.specs.Talk.{IsReply, all_sent, ended, half_sent, heard, no_line, no_reply, quits, too_long, unheard, unsent}

@@ -1,5 +1,5 @@
 -- The first entry of a strategy.
-use Rattle.std.proofs.Common.{◌≡◌, ◌∙◌, ◌<◌, ℕ, suc, arith, List, [], ◌∷◌, length, map, get_or, Option, None, Some, Result, Ok, Err, true, true≢false, is_none, is_some, inl, refl, sym, ap, subst}
+use Rattle.std.proofs.Common.{◌≡◌, ◌∙◌, ◌<◌, ℕ, suc, arith, List, [], ◌∷◌, length, map, get_or, Option, None, Some, Result, Ok, Err, true, true≢false, is_none, is_some, inl, refl, sym, ap}
 use Rattle.std.specs.Prelude.{IfOk, slice_get}
 use Rattle.std.specs.List.{filter}
 use Rattle.arimaa_board.specs.declared.piece.Color.{Color}
@@ -11,7 +11,7 @@ use Rattle.arimaa_board.specs.Noted.{noted_turn}
 use Rattle.arimaa_forced.specs.declared.entry.Entry.{Entry}
 use Rattle.arimaa_forced.specs.Entries.{entry_with_marks}
 use Rattle.arimaa_model.specs.Decided.{decided}
-use Rattle.arimaa_model.specs.Strategies.{Planned, entry_of, first_met, met, open_replies, strategy_of}
+use Rattle.arimaa_model.specs.Strategies.{Planned, entry_of, first_met, met, strategy_of}
 use Rattle.arimaa_model.specs.Wins.{wins}
 use Rattle.arimaa_model.proofs.Meeting.{first-met}
 use Rattle.arimaa_model.proofs.Members.{In, filter-In}

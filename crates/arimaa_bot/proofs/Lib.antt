@@ -1,4 +1,4 @@
-pub mod OptionForms
+pub mod LookaheadForms
 pub mod Passing
 pub mod Midst
 pub mod Whole

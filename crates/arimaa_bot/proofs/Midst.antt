@@ -1,16 +1,16 @@
 -- A session, line by line.
-use Rattle.std.proofs.Common.{◌≡◌, ◌∙◌, ◌++◌, ◌+◌, ◌<◌, ◌≤◌, ℕ, List, [], ◌∷◌, Result, Ok, Err, length, length-append, append-nil, ap, append_assoc, refl, sym, subst, arith}
+use Rattle.std.proofs.Common.{◌≡◌, ◌∙◌, ◌++◌, ◌+◌, ◌<◌, ◌≤◌, ℕ, List, [], ◌∷◌, length, length-append, ap, refl, sym, subst, arith}
 use Rattle.arimaa_aei.specs.Commands.{command_of}
 use Rattle.arimaa_outside.specs.declared.port_answer.PortAnswer.{PortAnswer}
 use Rattle.arimaa_bot.specs.declared.bot_end.BotEnd.{BotEnd}
 use Rattle.arimaa_bot.specs.declared.bot_end.BotEnd.TheVariants as end
-use Rattle.arimaa_bot.specs.declared.options.Lookahead.{Lookahead}
+use Rattle.arimaa_bot.specs.declared.lookahead.Lookahead.{Lookahead}
 use Rattle.arimaa_bot.specs.declared.stage.Stage.{Stage}
 use Rattle.arimaa_bot.specs.declared.stage.Stage.TheVariants as stage
 use Rattle.arimaa_bot.specs.Calls.{HadSession, HasEnded, IsRepliedTo, Passed, Told}
 use Rattle.arimaa_bot.specs.Replies.{lines_of}
 use Rattle.arimaa_bot.specs.Stages.{stage_after}
-use Rattle.arimaa_bot.specs.Talk.{AreReplied, IsLast, IsReply, IsSession, Talk, all_sent, ended, enough, half_sent, heard, no_line, no_reply, none_yet, one_more, quits, stopped, too_long, unheard, unsent}
+use Rattle.arimaa_bot.specs.Talk.{IsLast, IsReply, IsSession, Talk, all_sent, ended, enough, half_sent, heard, no_line, no_reply, none_yet, one_more, quits, stopped, too_long, unheard, unsent}
 use Rattle.arimaa_bot.proofs.Passing.{passed_both, passed_nothing}
 
 -- so many lines were replied to, and the game has come to this stage

@@ -1,5 +1,5 @@
 -- Turns that are told, lawful or not.
-use Rattle.std.proofs.Common.{◌≡◌, List, Option, None, Some, Result, Ok, Err, true, false, ap, refl, sym}
+use Rattle.std.proofs.Common.{◌≡◌, List, None, Some, Result, Ok, Err, true, false, ap, refl, sym}
 use Rattle.arimaa_board.specs.declared.position.Position.{Position}
 use Rattle.arimaa_board.specs.declared.turn.NotedStep.{NotedStep}
 use Rattle.arimaa_board.specs.Noted.{noted_turn}

@@ -1,5 +1,5 @@
 -- A game that goes on has a plain turn.
-use Rattle.std.proofs.Common.{◌≡◌, ◌∙◌, List, [], ◌∷◌, Option, None, Some, Bool, true, false, is_some, refl, sym, ap, subst, true≢false}
+use Rattle.std.proofs.Common.{◌≡◌, ◌∙◌, List, [], Option, None, Some, Bool, true, false, is_some, refl, sym, ap, true≢false}
 use Rattle.std.specs.List.{list_any}
 use Rattle.std.specs.Option.{option_map_or, option_or}
 use Rattle.arimaa_board.specs.declared.position.Position.{Position}

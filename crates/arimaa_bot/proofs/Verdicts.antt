@@ -11,7 +11,7 @@ use Rattle.arimaa_model.specs.Strategies.{Planned, strategy_of}
 use Rattle.arimaa_pool.specs.Verdicts.{IsAnswer, terms_of}
 use Rattle.arimaa_pool.specs.declared.verdict.Verdict.{Verdict}
 use Rattle.arimaa_pool.specs.declared.verdict.Verdict.TheVariants as verdict
-use Rattle.arimaa_bot.specs.declared.options.Lookahead.{Lookahead}
+use Rattle.arimaa_bot.specs.declared.lookahead.Lookahead.{Lookahead}
 use Rattle.arimaa_bot.specs.Choice.{GoesOnAt, IsUnproved, crowded, spent}
 use Rattle.arimaa_bot.proofs.Entries.{first_of}
 use Rattle.arimaa_bot.proofs.PlainTurns.{undecided}

@@ -11,7 +11,7 @@ use Rattle.arimaa_outside.specs.declared.port_fault.PortFault.{PortFault}
 use Rattle.arimaa_outside.specs.declared.port_fault.PortFault.TheVariants as port
 use Rattle.arimaa_bot.specs.declared.bot_end.BotEnd.{BotEnd}
 use Rattle.arimaa_bot.specs.declared.bot_end.BotEnd.TheVariants as end
-use Rattle.arimaa_bot.specs.declared.options.Lookahead.{Lookahead}
+use Rattle.arimaa_bot.specs.declared.lookahead.Lookahead.{Lookahead}
 use Rattle.arimaa_bot.specs.declared.reply.Reply.{Reply}
 use Rattle.arimaa_bot.specs.declared.stage.Stage.{Stage}
 use Rattle.arimaa_bot.specs.Replies.{lines_of}

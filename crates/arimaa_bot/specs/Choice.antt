@@ -20,7 +20,7 @@ use Rattle.arimaa_model.specs.Strategies.{Planned, strategy_of}
 use Rattle.arimaa_model.specs.Wins.{wins}
 use Rattle.arimaa_notation.specs.Written.{text_of_turn}
 use Rattle.arimaa_results.specs.Passing.{first_passing}
-use Rattle.arimaa_bot.specs.declared.options.Lookahead.{Lookahead}
+use Rattle.arimaa_bot.specs.declared.lookahead.Lookahead.{Lookahead}
 use Rattle.arimaa_bot.specs.declared.stage.Stage.{Stage}
 use Rattle.arimaa_bot.specs.declared.stage.Stage.TheVariants as stage
 

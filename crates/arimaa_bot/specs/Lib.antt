@@ -1,7 +1,7 @@
 pub mod BotEnd
 pub mod Replies
 pub mod Stages
-pub mod Options
+pub mod Lookaheads
 pub mod Choice
 pub mod Talk
 pub mod Calls

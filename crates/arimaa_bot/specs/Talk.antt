@@ -10,7 +10,7 @@ use Rattle.arimaa_outside.specs.declared.port_answer.PortAnswer.TheVariants as a
 use Rattle.arimaa_outside.specs.declared.said.Said.TheVariants as said
 use Rattle.arimaa_bot.specs.declared.bot_end.BotEnd.{BotEnd}
 use Rattle.arimaa_bot.specs.declared.bot_end.BotEnd.TheVariants as end
-use Rattle.arimaa_bot.specs.declared.options.Lookahead.{Lookahead}
+use Rattle.arimaa_bot.specs.declared.lookahead.Lookahead.{Lookahead}
 use Rattle.arimaa_bot.specs.declared.reply.Reply.{Reply}
 use Rattle.arimaa_bot.specs.declared.reply.Reply.TheVariants as reply
 use Rattle.arimaa_bot.specs.declared.session.TheConstants.{MOST_LINES}

@@ -2,7 +2,7 @@
 ghost use Rattle.std.specs.Prelude.{◌≡◌, ◌<◌, List, None, Some, IfOk, IsSome, length, map, slice_get};
 ghost use Rattle.arimaa_board.specs.declared.position.Position.{Position as Place};
 ghost use Rattle.arimaa_bot.specs.Choice.{IsChoice, IsUnproved, said_by, said_from};
-ghost use Rattle.arimaa_bot.specs.Options.{AreWithinRanges};
+ghost use Rattle.arimaa_bot.specs.Lookaheads.{AreWithinRanges};
 ghost use Rattle.arimaa_bot.specs.declared.stage.Stage.TheVariants as stages;
 ghost use Rattle.arimaa_game.specs.Play.{ending_of};
 ghost use Rattle.arimaa_forced.specs.Entries.{entry_with_marks};
@@ -12,7 +12,7 @@ ghost use Rattle.arimaa_model.specs.Strategies.{Planned};
 ghost use Rattle.arimaa_notation.specs.Written.{text_of_turn};
 ghost use Rattle.arimaa_pool.specs.Verdicts.{IsAnswer, terms_of};
 
-use crate::options::Lookahead;
+use crate::lookahead::Lookahead;
 use crate::plain::plain_turn;
 use crate::stage::Stage;
 use arimaa_board::{Noted, Position, Turn};

@@ -7,7 +7,7 @@
 
 mod bot_end;
 mod choice;
-mod options;
+mod lookahead;
 mod outgoing;
 mod plain;
 mod reply;
@@ -15,5 +15,5 @@ mod session;
 mod stage;
 
 pub use bot_end::BotEnd;
-pub use options::Lookahead;
+pub use lookahead::Lookahead;
 pub use session::{MOST_LINES, run_bot};

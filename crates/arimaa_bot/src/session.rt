@@ -3,14 +3,14 @@ ghost use Rattle.std.specs.Prelude.{◌≡◌, ◌≢◌, Ok, IfOk, OnOk};
 ghost use Rattle.arimaa_aei.specs.Commands.{command_of};
 ghost use Rattle.arimaa_outside.specs.Counts.{NeverFall};
 ghost use Rattle.arimaa_bot.specs.Calls.{HadSession, HeardSo, IsCause, IsCauseOf, IsDealt, end_of, told};
-ghost use Rattle.arimaa_bot.specs.Options.{AreWithinRanges, AskFor};
+ghost use Rattle.arimaa_bot.specs.Lookaheads.{AreWithinRanges, AskFor};
 ghost use Rattle.arimaa_bot.specs.Stages.{HasFitBoard, IsWhole, stage_after};
 ghost use Rattle.arimaa_bot.specs.Talk.{IsReplyOrQuit, MatchReply, reply_lawful, reply_refused};
-ghost use Rattle.arimaa_bot.specs.declared.options.Lookahead.{Lookahead as Values};
+ghost use Rattle.arimaa_bot.specs.declared.lookahead.Lookahead.{Lookahead as Values};
 
 use crate::bot_end::BotEnd;
 use crate::choice::choose;
-use crate::options::{Lookahead, read_options};
+use crate::lookahead::{Lookahead, read_lookahead};
 use crate::outgoing::send_reply;
 use crate::reply::Reply;
 use crate::stage::{Stage, begin_at, tell_setup, tell_turn};
@@ -221,7 +221,7 @@ pub fn run_bot<R: AllocGlobal + Threads + Sync, P: Port>(
         → (P.counts port.new).faults ≡ (P.counts port.old).faults }
     ensures never_falls { NeverFall (P.counts port.old) (P.counts port.new) }
 {
-    match read_options(words) {
+    match read_lookahead(words) {
         None => BotEnd::Words,
         Some(ahead) => talk(rt, alloc, &ahead, port),
     }

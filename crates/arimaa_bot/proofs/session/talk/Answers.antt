@@ -1,4 +1,4 @@
-use Rattle.std.proofs.Common.{◌≡◌, ◌∙◌, arith, refl, subst, sym}
+use Rattle.std.proofs.Common.{◌∙◌, arith, refl, subst, sym}
 use Rattle.arimaa_aei.specs.Commands.{command_of}
 use Rattle.arimaa_bot.specs.Stages.{IsWhole}
 use Rattle.arimaa_bot.proofs.Causes.{falls_never, never_fall}

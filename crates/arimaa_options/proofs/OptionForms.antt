@@ -3,13 +3,11 @@ use Rattle.std.proofs.Common.{◌≡◌, ℕ, suc, ◌+◌, ◌<◌, ◌≤◌, 
 use Rattle.std.specs.Prelude.{◌==◌, slice_get, zero, IfNone, if◌then◌else◌}
 use Rattle.std.specs.Option.{unwrap_or}
 use Rattle.std.proofs.lemmas.Fmt.{decimal_injective}
-use Rattle.arimaa_pool.specs.declared.settings.Settings.{Settings}
-use Rattle.arimaa_pool.specs.Limits.{AreWithinLimits}
-use Rattle.arimaa_bot.specs.declared.options.Lookahead.{Lookahead}
-use Rattle.arimaa_bot.specs.declared.options.Given.{Given}
-use Rattle.arimaa_bot.specs.declared.options.Setting.{Setting}
-use Rattle.arimaa_bot.specs.declared.options.Setting.TheVariants.{Depth, Workers, Lines, Budget, Room}
-use Rattle.arimaa_bot.specs.Options.{AreOptions, AreWithinRanges, Give, IsOption, given_for, least_of, lookahead_of, most_of, nothing_given, with_number, word_of}
+use Rattle.arimaa_options.specs.declared.search_options.SearchOptions.{SearchOptions}
+use Rattle.arimaa_options.specs.declared.given.Given.{Given}
+use Rattle.arimaa_options.specs.declared.setting.Setting.{Setting}
+use Rattle.arimaa_options.specs.declared.setting.Setting.TheVariants.{Depth, Workers, Lines, Budget, Room}
+use Rattle.arimaa_options.specs.Options.{AreOptions, AreWithinRanges, Give, IsOption, given_for, least_of, options_of, most_of, nothing_given, with_number, word_of}
 
 -- ---- words
 
@@ -92,8 +90,9 @@ one_given (x ∷ y ∷ ws) g h k p q =
     let number : q.1 ≡ p.1 = decimal_injective q.1 p.1 (small q.0 q.1 q.2.most) (small p.0 p.1 p.2.most) (sym q.2.written ∙ p.2.written) in
     one_given ws (with_number p.0 p.1 g) h k p.3 (subst (λ (v : Given). Give v ws k) (λ i. with_number (name i) (number i) g) q.3)
 
-pub one_options : (ws : List (List ℕ)) (s t : Lookahead) → AreOptions ws s → AreOptions ws t → s ≡ t
-one_options ws s t p q = p.set ∙ ap lookahead_of (one_given ws nothing_given p.given q.given p.in_form q.in_form) ∙ sym q.set
+-- words are options that ask for one thing
+pub one_options : (ws : List (List ℕ)) (s t : SearchOptions) → AreOptions ws s → AreOptions ws t → s ≡ t
+one_options ws s t p q = p.set ∙ ap options_of (one_given ws nothing_given p.given q.given p.in_form q.in_form) ∙ sym q.set
 
 -- ---- a reading that goes on
 
@@ -161,16 +160,16 @@ filled None d least most low high h = (low, high)
 filled (Some n) d least most low high h = h n refl
 
 -- what options set is within the ranges, but for the room of all workers
-pub limits : (ws : List (List ℕ)) (g : Given) (l : Lookahead) → Give nothing_given ws g → l ≡ lookahead_of g → l.settings.workers * l.settings.room ≤ 4194304 → AreWithinRanges l
+pub limits : (ws : List (List ℕ)) (g : Given) (l : SearchOptions) → Give nothing_given ws g → l ≡ options_of g → l.settings.workers * l.settings.room ≤ 4194304 → AreWithinRanges l
 unfolding AreInRange
 limits ws g l give set room =
     let ranges : AreInRange g = given_ranges ws nothing_given g nothing_ranges give in
-    let depth = filled g.depth 1 0 20 (omega arith) (omega arith) (ranges Depth) in
+    let depth = filled g.depth 0 0 20 (omega arith) (omega arith) (ranges Depth) in
     let workers = filled g.workers 4 1 16 (omega arith) (omega arith) (ranges Workers) in
     let lines = filled g.lines 65536 1 262144 (omega arith) (omega arith) (ranges Lines) in
     let budget = filled g.budget 10000000 1 (2 ^ 40) (omega arith) (omega arith) (ranges Budget) in
     let places = filled g.room 262144 1 1048576 (omega arith) (omega arith) (ranges Room) in
-    let all : (lookahead_of g).settings.workers * (lookahead_of g).settings.room ≤ 4194304 = subst (λ (t : Lookahead). t.settings.workers * t.settings.room ≤ 4194304) set room in
+    let all : (options_of g).settings.workers * (options_of g).settings.room ≤ 4194304 = subst (λ (t : SearchOptions). t.settings.workers * t.settings.room ≤ 4194304) set room in
     subst AreWithinRanges (sym set) (record {
       depth = depth.1;
       limits = record {

@@ -1,6 +1,6 @@
 use Rattle.std.proofs.Common.{◌≡◌, ◌≤◌, ℕ, Option, None, Some, false, is_some, refl, sym, ◌∙◌, subst, arith, true≢false}
-use Rattle.arimaa_bot.specs.Options.{given_for, least_of}
-use Rattle.arimaa_bot.proofs.options.read_option.Goals as goal
+use Rattle.arimaa_options.specs.Options.{given_for, least_of}
+use Rattle.arimaa_options.proofs.given.read_option.Goals as goal
 
 absent : (o : Option ℕ) → is_some o ≡ false → o ≡ None
 absent None e = refl

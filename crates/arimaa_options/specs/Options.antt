@@ -1,12 +1,12 @@
--- The words of the bot: options, each at most once, as its word and a number, in any order.
+-- Options: each stands at most once, as its word and a number, in any order.
 use Rattle.std.specs.Prelude.{◌≡◌, ◌≤◌, ◌^◌, ℕ, List, [], ◌∷◌, Option, None, Some, codes}
 use Rattle.std.specs.Option.{unwrap_or}
 use Rattle.std.specs.Fmt.{decimal}
 use Rattle.arimaa_pool.specs.Limits.{AreWithinLimits}
-use Rattle.arimaa_bot.specs.declared.options.Given.{Given}
-use Rattle.arimaa_bot.specs.declared.options.Lookahead.{Lookahead}
-use Rattle.arimaa_bot.specs.declared.options.Setting.{Setting}
-use Rattle.arimaa_bot.specs.declared.options.Setting.TheVariants.{Depth, Workers, Lines, Budget, Room}
+use Rattle.arimaa_options.specs.declared.given.Given.{Given}
+use Rattle.arimaa_options.specs.declared.search_options.SearchOptions.{SearchOptions}
+use Rattle.arimaa_options.specs.declared.setting.Setting.{Setting}
+use Rattle.arimaa_options.specs.declared.setting.Setting.TheVariants.{Depth, Workers, Lines, Budget, Room}
 
 -- the word of an option
 abbrev pub word_of : Setting → List ℕ
@@ -60,17 +60,21 @@ pub record IsOption (given : Given) (name number : List ℕ) (o : Setting) (n : 
   pub most : n ≤ most_of o
   pub fresh : given_for o given ≡ None
 
--- where some options are given already, the words give others, two words each, and then these are given
+-- where some options are given already, the words give others, two words each, and then these are
+-- given
 unfoldable pub Give : Given → List (List ℕ) → Given → Type 0
 Give given [] after = given ≡ after
 Give given (name ∷ []) after = ⊥
 Give given (name ∷ number ∷ words) after =
-    (o : Setting) × (n : ℕ) × IsOption given name number o n × Give (with_number o n given) words after
+    (o : Setting) × (n : ℕ) × IsOption given name number o n
+    × Give (with_number o n given) words after
 
--- what options set, each by its number, and else a depth of 1, 4 workers, 65,536 lines, a budget of 10,000,000 and room for 262,144
-abbrev pub lookahead_of : Given → Lookahead
-lookahead_of g = record {
-  depth = unwrap_or g.depth 1;
+-- what options ask for: the depth and the number of workers where they are given, and the settings,
+-- each by its number, and else 4 workers, 65,536 lines, a budget of 10,000,000 and room for 262,144
+abbrev pub options_of : Given → SearchOptions
+options_of g = record {
+  depth = g.depth;
+  workers = g.workers;
   settings = record {
     workers = unwrap_or g.workers 4;
     lines = unwrap_or g.lines 65536;
@@ -79,18 +83,13 @@ lookahead_of g = record {
   };
 }
 
--- the words are options that set this
-pub record AreOptions (words : List (List ℕ)) (l : Lookahead) : Type 0 where
+-- the words are options that ask for this
+pub record AreOptions (words : List (List ℕ)) (o : SearchOptions) : Type 0 where
   pub given : Given
   pub in_form : Give nothing_given words given
-  pub set : l ≡ lookahead_of given
+  pub set : o ≡ options_of given
 
--- the depth is at most 20, and the settings are within the prover's limits
-pub record AreWithinRanges (l : Lookahead) : Type 0 where
-  pub depth : l.depth ≤ 20
-  pub limits : AreWithinLimits l.settings
-
--- the words ask for this
-pub record AskFor (words : List (List ℕ)) (l : Lookahead) : Type 0 where
-  pub options : AreOptions words l
-  pub ranges : AreWithinRanges l
+-- a depth that is given is at most 20, and the settings are within the prover's limits
+pub record AreWithinRanges (o : SearchOptions) : Type 0 where
+  pub depth : unwrap_or o.depth 0 ≤ 20
+  pub limits : AreWithinLimits o.settings
