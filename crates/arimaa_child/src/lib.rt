@@ -5,11 +5,9 @@
 #![tactic(auto)]
 
 mod clock;
-mod port;
 mod spawner;
 
 pub use clock::SystemClock;
-pub use port::ChildPort;
 pub use spawner::ChildSpawner;
 
 #[cfg(test)]

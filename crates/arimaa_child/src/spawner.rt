@@ -2,10 +2,10 @@
 ghost use Rattle.std.specs.Prelude.{◌≡◌, None, IfOk, IsErrOf};
 ghost use Rattle.arimaa_outside.specs.Counts.{NeverFall, no_counts, sum_of_counts};
 ghost use Rattle.arimaa_outside.specs.Faults.{HasRisen};
-ghost use Rattle.arimaa_child.specs.Counts.{counts_of, spawner_counts};
+ghost use Rattle.arimaa_outside.specs.StdPort.{counts_of};
+ghost use Rattle.arimaa_child.specs.Counts.{spawner_counts};
 
-use crate::port::ChildPort;
-use arimaa_outside::{PortFault, Spawner};
+use arimaa_outside::{PortFault, Spawner, StdPort};
 use std::alloc::Global;
 use std::io::{BufReader, ErrorKind};
 use std::process::{Command, OpenProcess, Processes, Stdio};
@@ -26,9 +26,9 @@ pub struct ChildSpawner<'r, R> {
 }
 
 /// The link to a child of a runtime's processes.
-type Link<R> = ChildPort<
+type Link<R> = StdPort<
+    BufReader<<<R as Processes>::Started as OpenProcess>::Stdout>,
     <<R as Processes>::Started as OpenProcess>::Stdin,
-    <<R as Processes>::Started as OpenProcess>::Stdout,
 >;
 
 impl<'r, R: Processes> ChildSpawner<'r, R> {
@@ -62,7 +62,7 @@ fn start<R: Processes>(rt: &R, alloc: Global, program: &str) -> Result<Link<R>, 
     };
     match (child.stdin.take(), child.stdout.take()) {
         (Some(input), Some(output)) => match BufReader::new(alloc, output) {
-            Ok(output) => Ok(ChildPort::new(input, output)),
+            Ok(output) => Ok(StdPort::new(output, input)),
             Err(error) => Err(error.kind()),
         },
         _ => Err(ErrorKind::Other),

@@ -39,6 +39,27 @@ impl<R: Read, W: Write> StdPort<R, W> {
         }
     }
 
+    /// How many calls have failed.
+    pub fn faults(&self) -> u64
+        ensures { result ≡ (counts_of self.now).faults }
+    {
+        self.faults
+    }
+
+    /// How often nothing more came or a line was too long.
+    pub fn stops(&self) -> u64
+        ensures { result ≡ (counts_of self.now).stops }
+    {
+        self.stops
+    }
+
+    /// How many lines were heard.
+    pub fn lines(&self) -> u64
+        ensures { result ≡ (counts_of self.now).lines }
+    {
+        self.lines
+    }
+
     // Counts a call that has failed.
     fn fail(&mut self) -> PortFault
         ensures answer { result ≡ PortFault.Failed }
