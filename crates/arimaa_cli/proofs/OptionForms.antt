@@ -1,5 +1,5 @@
 -- Options, from their words.
-use Rattle.std.proofs.Common.{◌≡◌, ℕ, suc, ◌+◌, ◌<◌, ◌≤◌, ◌*◌, ◌^◌, List, [], ◌∷◌, length, drop, Option, None, Some, refl, sym, ◌∙◌, ap, subst, arith}
+use Rattle.std.proofs.Common.{◌≡◌, ℕ, suc, ◌+◌, ◌<◌, ◌≤◌, ◌*◌, ◌^◌, List, [], ◌∷◌, length, drop, Option, None, Some, true, is_some, refl, sym, ◌∙◌, ap, subst, arith, true≢false}
 use Rattle.std.specs.Prelude.{slice_get, zero, IfNone}
 use Rattle.std.specs.Option.{unwrap_or}
 use Rattle.std.proofs.lemmas.Fmt.{decimal_injective}
@@ -8,7 +8,7 @@ use Rattle.arimaa_pool.specs.Limits.{AreWithinLimits}
 use Rattle.arimaa_cli.specs.declared.options.Given.{Given}
 use Rattle.arimaa_cli.specs.declared.options.Setting.{Setting}
 use Rattle.arimaa_cli.specs.declared.options.Setting.TheVariants.{Workers, Lines, Budget, Room}
-use Rattle.arimaa_cli.specs.Options.{AreOptions, Give, IsOption, given_for, most_of, nothing_given, settings_of, with_number, word_of}
+use Rattle.arimaa_cli.specs.Options.{AreOptions, AreOptionsOfOne, Give, IsOption, given_for, most_of, nothing_given, settings_of, with_number, word_of}
 
 -- ---- words
 
@@ -74,6 +74,10 @@ one_given (x ∷ y ∷ ws) g h k p q =
 
 pub one_options : (ws : List (List ℕ)) (s t : Settings) → AreOptions ws s → AreOptions ws t → s ≡ t
 one_options ws s t p q = p.set ∙ ap settings_of (one_given ws nothing_given p.given q.given p.in_form q.in_form) ∙ sym q.set
+
+pub one_options_of_one : (ws : List (List ℕ)) (s t : Settings) → AreOptionsOfOne ws s → AreOptionsOfOne ws t → s ≡ t
+one_options_of_one ws s t p q =
+    p.set ∙ ap (λ (g : Given). settings_of (with_number Workers 1 g)) (one_given ws nothing_given p.given q.given p.in_form q.in_form) ∙ sym q.set
 
 -- ---- a reading that goes on
 
@@ -157,4 +161,32 @@ limits ws g s give set room =
       some_room = places.0;
       most_room = places.1;
       room_of_all = all;
+    })
+
+-- options for one worker don't give the number of workers
+pub alone_has : (ws : List (List ℕ)) (g : Given) (s : Settings) → Give nothing_given ws g → AreOptionsOfOne ws s → is_some g.workers ≡ true → ⊥
+alone_has ws g s give h e =
+    let same = one_given ws nothing_given h.given g h.in_form give in
+    let none : g.workers ≡ None = sym (ap (λ (v : Given). v.workers) same) ∙ h.alone in
+    true≢false (sym e ∙ ap is_some none)
+
+-- what options set for one worker is within the limits
+pub limits_of_one : (ws : List (List ℕ)) (g : Given) (s : Settings) → Give nothing_given ws g → s ≡ settings_of (with_number Workers 1 g) → AreWithinLimits s
+unfolding AreInRange
+limits_of_one ws g s give set =
+    let ranges : AreInRange g = given_ranges ws nothing_given g nothing_ranges give in
+    let lines = filled g.lines 65536 262144 (omega arith) (omega arith) (ranges Lines) in
+    let budget = filled g.budget 10000000 (2 ^ 40) (omega arith) (omega arith) (ranges Budget) in
+    let places = filled g.room 262144 1048576 (omega arith) (omega arith) (ranges Room) in
+    let most = places.1 in
+    subst AreWithinLimits (sym set) (record {
+      some_workers = omega arith;
+      most_workers = omega arith;
+      some_lines = lines.0;
+      most_lines = lines.1;
+      some_budget = budget.0;
+      most_budget = budget.1;
+      some_room = places.0;
+      most_room = places.1;
+      room_of_all = omega arith;
     })

@@ -1,4 +1,4 @@
--- An input is parted at the first line that says strategy.
+-- An input is parted at the first line that says a word.
 use Rattle.std.proofs.Common.{◌≡◌, ℕ, ◌+◌, ◌<◌, ◌≤◌, List, [], ◌∷◌, ◌++◌, cond, length, take, drop, get_or, false, true, refl, sym, ◌∙◌, ap, subst, arith, inl, inr, append_assoc, length-append, length-drop, take_all, ⊎_elim}
 use Rattle.std.specs.Prelude.{◌⊎◌, ◌==◌}
 use Rattle.std.specs.List.{AllByRecursion, onto_first, position_or_len, slice_split}
@@ -8,7 +8,7 @@ use Rattle.std.proofs.lemmas.List.{append-nil, drop-drop, drop_all, get_or-take,
 use Rattle.std.proofs.lemmas.List.Sums.{position_or_len_is}
 use Rattle.arimaa_record.specs.Lines.{is_feed, lines_of, lines_of_pieces}
 use Rattle.arimaa_record.proofs.LineLaws.{lines-first, no_lines}
-use Rattle.arimaa_cli.specs.Commands.Check.{AreWholeLines, IsFirstLine, IsParted, NoneSaysStrategy, SaysStrategy}
+use Rattle.arimaa_cli.specs.Parts.{AreWholeLines, IsFirstLine, IsParted, NoneSays, Says}
 
 -- ---- whole lines
 
@@ -79,24 +79,24 @@ all_append : {X : Type 0} (P : X → Type 0) (xs ys : List X) → AllByRecursion
 all_append P [] ys p q = q
 all_append P (x ∷ xs) ys p q = (p.0, all_append P xs ys p.1 q)
 
--- so many bytes are so many lines, none of which says strategy; whole lines, unless they are all bytes
-pub record IsPassed (bytes : List ℕ) (start lines : ℕ) : Type 0 where
+-- so many bytes are so many lines, none of which says a word; whole lines, unless they are all bytes
+pub record IsPassed (word bytes : List ℕ) (start lines : ℕ) : Type 0 where
   pub within : start ≤ length bytes
   pub whole : (start ≡ length bytes) ⊎ AreWholeLines (take start bytes)
-  pub none : NoneSaysStrategy (take start bytes)
+  pub none : NoneSays word (take start bytes)
   pub counted : lines ≡ length (lines_of (take start bytes))
   pub few : lines ≤ start
 
-pub passed_none : (bytes : List ℕ) → IsPassed bytes 0 0
-passed_none bytes = record {
+pub passed_none : (word bytes : List ℕ) → IsPassed word bytes 0 0
+passed_none word bytes = record {
   within = omega arith;
   whole = inr whole_none;
-  none = subst (AllByRecursion (λ line. ¬ SaysStrategy line)) (sym no_lines) tt;
+  none = subst (AllByRecursion (λ line. ¬ Says word line)) (sym no_lines) tt;
   counted = ap length (sym no_lines);
   few = omega arith;
 }
 
-module _ (bytes : List ℕ) (start lines size : ℕ) (line : List ℕ) (back : List ℕ) (h : IsPassed bytes start lines) (less : start < length bytes)
+module _ (word bytes : List ℕ) (start lines size : ℕ) (line : List ℕ) (back : List ℕ) (h : IsPassed word bytes start lines) (less : start < length bytes)
     (first : IsFirstLine (drop start bytes) size) (is : lines_of (drop start bytes) ≡ line ∷ lines_of back) where
   before : AreWholeLines (take start bytes)
   before = ⊎_elim (λ (e : start ≡ length bytes). absurd (omega arith)) (λ w. w) h.whole
@@ -124,7 +124,7 @@ module _ (bytes : List ℕ) (start lines size : ℕ) (line : List ℕ) (back : L
   more = ap lines_of (take-add start size bytes) ∙ (before (take size (drop start bytes)) ∙ ap (λ (ls : List (List ℕ)). lines_of (take start bytes) ++ ls) (first.alone ∙ ap (λ (l : List ℕ). l ∷ []) same))
 
   -- the line says something else
-  pub passed_more : ¬ SaysStrategy line → IsPassed bytes (start + size) (lines + 1)
+  pub passed_more : ¬ Says word line → IsPassed word bytes (start + size) (lines + 1)
   passed_more other =
       let counted = h.counted in
       let few = h.few in
@@ -133,13 +133,13 @@ module _ (bytes : List ℕ) (start lines size : ℕ) (line : List ℕ) (back : L
         within = fits;
         whole = ⊎_elim (λ (e : size ≡ length (drop start bytes)). inl (omega (arith, length-drop start bytes)))
             (λ w. inr (subst AreWholeLines (sym (take-add start size bytes)) (whole_more (take start bytes) (take size (drop start bytes)) before w))) first.whole;
-        none = subst (AllByRecursion (λ l. ¬ SaysStrategy l)) (sym more) (all_append (λ l. ¬ SaysStrategy l) (lines_of (take start bytes)) (line ∷ []) h.none (other, tt));
+        none = subst (AllByRecursion (λ l. ¬ Says word l)) (sym more) (all_append (λ l. ¬ Says word l) (lines_of (take start bytes)) (line ∷ []) h.none (other, tt));
         counted = omega (arith, ap length more, length-append (lines_of (take start bytes)) (line ∷ []));
         few = omega arith;
       }
 
-  -- the line says strategy
-  pub passed_parted : SaysStrategy line → IsParted bytes (take start bytes) (drop (start + size) bytes)
+  -- the line says the word
+  pub passed_parted : Says word line → IsParted word bytes (take start bytes) (drop (start + size) bytes)
   passed_parted says = record {
     line = line;
     lines = ap lines_of (sym (take-append-drop start bytes)) ∙ (before (drop start bytes) ∙ ap (λ (ls : List (List ℕ)). lines_of (take start bytes) ++ ls) (cut ∙ λ i. same i ∷ lines_of (rest i)));
@@ -148,10 +148,10 @@ module _ (bytes : List ℕ) (start lines size : ℕ) (line : List ℕ) (back : L
   }
 
 -- nothing is left
-pub passed_all : (bytes : List ℕ) (start lines : ℕ) → IsPassed bytes start lines → drop start bytes ≡ [] → NoneSaysStrategy bytes
-passed_all bytes start lines h nothing =
+pub passed_all : (word bytes : List ℕ) (start lines : ℕ) → IsPassed word bytes start lines → drop start bytes ≡ [] → NoneSays word bytes
+passed_all word bytes start lines h nothing =
     let all : take start bytes ≡ bytes = take_all start bytes (omega (arith, length-drop start bytes, ap length nothing)) in
-    subst NoneSaysStrategy all h.none
+    subst (NoneSays word) all h.none
 
 -- ---- counts
 

@@ -62,6 +62,8 @@ no_answer call words given before = record {
   crowded = λ e. (let never : ⊥ = cc in absurd never);
   complete = λ bytes input can. (λ e. cc, λ e. cc);
   checked = λ bytes input can e. cc;
+  refuted = λ bytes input can. (λ e. cc, λ e. cc);
+  verified = λ bytes input can e. cc;
   bad_words = λ e. (let never : ⊥ = cc in absurd never);
   misworded = λ never. inr (inr refl);
   others = λ e. cc;

@@ -4,6 +4,8 @@ pub mod Control
 pub mod Judge
 pub mod Make
 pub mod Prove
+pub mod Verify
+pub mod Refute
 pub mod Show
 use Rattle.std.specs.Prelude.{◌≡◌, ◌≢◌, ◌<◌, ◌≤◌, ◌-◌, ◌^◌, ℕ, List, [], ◌∷◌, Bool, true, false, not, IsTrue, Some, Ok, Err, codes, length, slice_get, slice_index}
 use Rattle.std.specs.Fmt.{decimal}
@@ -25,14 +27,16 @@ use Rattle.arimaa_cli.specs.declared.commands.Question.TheVariants as question
 use Rattle.arimaa_cli.specs.declared.commands.prove.Asked.{Asked}
 use Rattle.arimaa_cli.specs.declared.record.Game.{Game}
 use Rattle.arimaa_cli.specs.Answer.{Found}
-use Rattle.arimaa_cli.specs.Options.{AreOptions}
+use Rattle.arimaa_cli.specs.Options.{AreOptions, AreOptionsOfOne}
 use Rattle.arimaa_cli.specs.Records.{IsAnswerAbout, IsRecord, IsRecordAnswer}
-use Rattle.arimaa_cli.specs.Commands.Check.{IsCheckAnswer, IsRoomGiven, room_words}
+use Rattle.arimaa_cli.specs.Commands.Check.{IsCheckAnswer, IsCheckingInRange, checking_words}
 use Rattle.arimaa_cli.specs.Commands.Control.{IsControlAnswer}
 use Rattle.arimaa_cli.specs.Commands.Judge.{IsJudgeAnswer}
 use Rattle.arimaa_cli.specs.Commands.Make.{IsMakeAnswer}
 use Rattle.arimaa_cli.specs.Commands.Prove.{IsProveAnswer}
+use Rattle.arimaa_cli.specs.Commands.Refute.{IsRefuteAnswer}
 use Rattle.arimaa_cli.specs.Commands.Show.{IsShowAnswer}
+use Rattle.arimaa_cli.specs.Commands.Verify.{IsVerifyAnswer}
 
 -- ---- words
 
@@ -52,13 +56,20 @@ pub record AreProveWords (words : List (List ℕ)) (asked : Asked) : Type 0 wher
   pub form : words ≡ codes "prove" ∷ side_word asked.attacker ∷ decimal asked.depth ∷ options
   pub set : AreOptions options asked.settings
 
+-- the words of refute: its name, a side, a number of turns, and options for one worker
+pub record AreRefuteWords (words : List (List ℕ)) (asked : Asked) : Type 0 where
+  pub options : List (List ℕ)
+  pub form : words ≡ codes "refute" ∷ side_word asked.attacker ∷ decimal asked.depth ∷ options
+  pub set : AreOptionsOfOne options asked.settings
+
 -- the words have the form of a command's
 abbrev pub HaveForm : List (List ℕ) → Command → Type 0
 HaveForm words (command.About question.Judge) = words ≡ codes "judge" ∷ []
 HaveForm words (command.About question.Show) = words ≡ codes "show" ∷ []
 HaveForm words (command.Prove asked) = AreProveWords words asked
-HaveForm words (command.Check asked) =
-    words ≡ codes "check" ∷ side_word asked.attacker ∷ decimal asked.depth ∷ room_words asked.room
+HaveForm words (command.Check asked) = words ≡ checking_words (codes "check") asked
+HaveForm words (command.Refute asked) = AreRefuteWords words asked
+HaveForm words (command.Verify asked) = words ≡ checking_words (codes "verify") asked
 HaveForm words (command.Control text) = words ≡ codes "control" ∷ text ∷ []
 HaveForm words (command.Make asked) =
     words ≡ codes "make" ∷ decimal asked.number ∷ decimal asked.turns ∷ []
@@ -67,7 +78,9 @@ HaveForm words (command.Make asked) =
 abbrev pub IsInRange : Command → Type 0
 IsInRange (command.About q) = Unit {0}
 IsInRange (command.Prove asked) = (asked.depth ≤ MOST_TURNS) × AreWithinLimits asked.settings
-IsInRange (command.Check asked) = (asked.depth ≤ MOST_TURNS) × IsRoomGiven asked.room
+IsInRange (command.Check asked) = IsCheckingInRange asked
+IsInRange (command.Refute asked) = (asked.depth ≤ MOST_TURNS) × AreWithinLimits asked.settings
+IsInRange (command.Verify asked) = IsCheckingInRange asked
 IsInRange (command.Control text) = IsTextWord text
 IsInRange (command.Make asked) = (asked.number ≤ 2 ^ 64 - 1) × (asked.turns ≤ MOST_MADE)
 
@@ -83,6 +96,8 @@ abbrev pub is_prove : Command → Bool
 is_prove (command.About q) = false
 is_prove (command.Prove asked) = true
 is_prove (command.Check asked) = false
+is_prove (command.Refute asked) = false
+is_prove (command.Verify asked) = false
 is_prove (command.Control text) = false
 is_prove (command.Make asked) = false
 
@@ -106,6 +121,8 @@ abbrev pub Reads : Command → Type 0
 Reads (command.About q) = Unit {0}
 Reads (command.Prove asked) = Unit {0}
 Reads (command.Check asked) = Unit {0}
+Reads (command.Refute asked) = Unit {0}
+Reads (command.Verify asked) = Unit {0}
 Reads (command.Control text) = ⊥
 Reads (command.Make asked) = ⊥
 
@@ -114,6 +131,8 @@ abbrev pub IsLimited : Command → Type 0
 IsLimited (command.About q) = ⊥
 IsLimited (command.Prove asked) = Unit {0}
 IsLimited (command.Check asked) = Unit {0}
+IsLimited (command.Refute asked) = Unit {0}
+IsLimited (command.Verify asked) = Unit {0}
 IsLimited (command.Control text) = ⊥
 IsLimited (command.Make asked) = ⊥
 
@@ -129,6 +148,8 @@ abbrev pub IsAnswerOf : List ℕ → Command → Answer → Type 0
 IsAnswerOf given (command.About q) a = IsRecordAnswer given (IsGameAnswer q) a
 IsAnswerOf given (command.Prove asked) a = IsRecordAnswer given (IsProveAnswer asked) a
 IsAnswerOf given (command.Check asked) a = IsCheckAnswer asked given a
+IsAnswerOf given (command.Refute asked) a = IsRecordAnswer given (IsRefuteAnswer asked) a
+IsAnswerOf given (command.Verify asked) a = IsVerifyAnswer asked given a
 IsAnswerOf given (command.Control text) a = IsControlAnswer text a
 IsAnswerOf given (command.Make asked) a = IsMakeAnswer asked a
 
@@ -137,6 +158,8 @@ abbrev pub command_of : Asking → Command
 command_of (asking.About q found) = command.About q
 command_of (asking.Prove asked found) = command.Prove asked
 command_of (asking.Check asked bytes) = command.Check asked
+command_of (asking.Refute asked found) = command.Refute asked
+command_of (asking.Verify asked bytes) = command.Verify asked
 command_of (asking.Control text) = command.Control text
 command_of (asking.Make asked) = command.Make asked
 
@@ -145,6 +168,8 @@ abbrev pub IsAbout : List ℕ → Asking → Type 0
 IsAbout given (asking.About q found) = IsRecord given found
 IsAbout given (asking.Prove asked found) = IsRecord given found
 IsAbout given (asking.Check asked bytes) = bytes.items ≡ given
+IsAbout given (asking.Refute asked found) = IsRecord given found
+IsAbout given (asking.Verify asked bytes) = bytes.items ≡ given
 IsAbout given (asking.Control text) = Unit {0}
 IsAbout given (asking.Make asked) = Unit {0}
 
@@ -153,6 +178,8 @@ abbrev pub IsAnswerTo : Asking → Answer → Type 0
 IsAnswerTo (asking.About q found) a = IsAnswerAbout (IsGameAnswer q) found a
 IsAnswerTo (asking.Prove asked found) a = IsAnswerAbout (IsProveAnswer asked) found a
 IsAnswerTo (asking.Check asked bytes) a = IsCheckAnswer asked bytes.items a
+IsAnswerTo (asking.Refute asked found) a = IsAnswerAbout (IsRefuteAnswer asked) found a
+IsAnswerTo (asking.Verify asked bytes) a = IsVerifyAnswer asked bytes.items a
 IsAnswerTo (asking.Control text) a = IsControlAnswer text a
 IsAnswerTo (asking.Make asked) a = IsMakeAnswer asked a
 

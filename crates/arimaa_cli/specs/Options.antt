@@ -1,4 +1,4 @@
--- The options of prove: each stands at most once, as its word and a number, in any order.
+-- The options of prove and refute: each stands at most once, as its word and a number, in any order.
 use Rattle.std.specs.Prelude.{◌≡◌, ◌≤◌, ◌^◌, ℕ, List, [], ◌∷◌, Option, None, Some}
 use Rattle.std.specs.Option.{unwrap_or}
 use Rattle.std.specs.Prelude.{codes}
@@ -69,3 +69,10 @@ pub record AreOptions (words : List (List ℕ)) (s : Settings) : Type 0 where
   pub given : Given
   pub in_form : Give nothing_given words given
   pub set : s ≡ settings_of given
+
+-- the words are options, none of them the number of workers, that set this for one worker
+pub record AreOptionsOfOne (words : List (List ℕ)) (s : Settings) : Type 0 where
+  pub given : Given
+  pub in_form : Give nothing_given words given
+  pub alone : given.workers ≡ None
+  pub set : s ≡ settings_of (with_number Workers 1 given)

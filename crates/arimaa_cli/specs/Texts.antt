@@ -20,6 +20,18 @@ crowded_text p n = line (codes "crowded " ++ question_text p n)
 abbrev pub spent_text : Position → ℕ → ℕ → List ℕ
 spent_text p n counted = line (codes "spent " ++ question_text p n ++ 32 ∷ decimal counted)
 
+-- no line of an input says a word
+abbrev pub missing_text : List ℕ → List ℕ
+missing_text word = line (codes "no " ++ word)
+
+-- a line that is none of those that come after a word
+abbrev pub bad_line_text : List ℕ → ℕ → List ℕ
+bad_line_text word number = line (word ++ 32 ∷ decimal number ++ codes " text")
+
+-- a first faulty entry, or 0 for the root, and the word for its first fault
+abbrev pub refused_text : ℕ → List ℕ → List ℕ
+refused_text entry why = line (codes "refused " ++ decimal entry ++ 32 ∷ why)
+
 -- a forced win: its rank, and its strategy
 abbrev pub win_text : ℕ → List Entry → List ℕ
 win_text rank entries =

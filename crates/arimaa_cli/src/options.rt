@@ -1,10 +1,10 @@
-//! The options of `prove`, which say how much the search may use.
+//! The options of `prove` and `refute`, which say how much the search may use.
 ghost use Rattle.std.specs.Prelude.{◌≡◌, ◌≤◌, ◌↔◌, ℕ, Some, drop, length, is_some, IfNone, IfSome};
 ghost use Rattle.arimaa_pool.specs.declared.settings.Settings.{Settings as Amounts};
 ghost use Rattle.arimaa_pool.specs.Limits.{AreWithinLimits};
 ghost use Rattle.arimaa_cli.specs.declared.options.Given.{Given as Numbers};
 ghost use Rattle.arimaa_cli.specs.declared.options.Setting.{Setting as Name};
-ghost use Rattle.arimaa_cli.specs.Options.{AreOptions, Give, IsOption, given_for, most_of, nothing_given, settings_of, with_number, word_of};
+ghost use Rattle.arimaa_cli.specs.Options.{AreOptions, AreOptionsOfOne, Give, IsOption, given_for, most_of, nothing_given, settings_of, with_number, word_of};
 
 use crate::words::read_up_to;
 use arimaa_outside::CommandWords;
@@ -157,4 +157,19 @@ pub(crate) fn read_options(words: &CommandWords, from: usize) -> Option<Settings
     } else {
         None
     }
+}
+
+// What the words from a place on set for one worker, where they are options, none of them the number
+// of workers.
+pub(crate) fn read_options_of_one(words: &CommandWords, from: usize) -> Option<Settings>
+    requires { from ≤ length words.now }
+    ensures form { IfSome result (AreOptionsOfOne (drop from words.now)) }
+    ensures limits { IfSome result AreWithinLimits }
+    ensures none { IfNone result ((s : Amounts) → ¬ AreOptionsOfOne (drop from words.now) s) }
+{
+    let given = read_given(words, from)?;
+    if given.has(Setting::Workers) {
+        return None;
+    }
+    Some(given.with(Setting::Workers, 1).settings())
 }

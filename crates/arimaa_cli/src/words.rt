@@ -10,12 +10,12 @@ ghost use Rattle.arimaa_cli.specs.declared.commands.make.Making.{Making as Wish}
 ghost use Rattle.arimaa_cli.specs.declared.commands.Command.TheVariants as order;
 ghost use Rattle.arimaa_cli.specs.declared.commands.Question.TheVariants as question;
 ghost use Rattle.arimaa_cli.specs.Commands.{AreWords, IsNamed, IsTextWord};
-ghost use Rattle.arimaa_cli.specs.Commands.Check.{EndWithRoom, IsRoom};
+ghost use Rattle.arimaa_cli.specs.Commands.Check.{AreCheckingWords, EndWithRoom, IsRoom};
 
 use crate::commands::{
     Asked, Checking, Command, MOST_MADE, MOST_ROOM, MOST_TURNS, Making, Question,
 };
-use crate::options::read_options;
+use crate::options::{read_options, read_options_of_one};
 use arimaa_board::Color;
 use arimaa_outside::CommandWords;
 use arimaa_record::read_number;
@@ -138,15 +138,34 @@ fn read_room(name: &str, number: &str) -> Option<u32>
     }
 }
 
-// The room that the words after the first three give `check`, if there are any.
-fn read_last_room(words: &CommandWords) -> Option<Option<u32>>
-    ensures form { IfSome result (λ room. EndWithRoom words.now room) }
-    ensures none { IfNone result ((room : Option ℕ) → ¬ EndWithRoom words.now room) }
+// What the words ask of `refute`: the name, a side, a number of turns, and options for one worker.
+fn read_refute(words: &CommandWords) -> Option<Asked>
+    ensures form { IfSome result (λ asked. AreWords words.now (order.Refute asked)) }
+    ensures none { IfNone result ((asked : Inquiry)
+        → ¬ AreWords words.now (order.Refute asked)) }
 {
-    if is_named(words, "check", 3) {
+    if words.get(0)? != "refute" {
+        return None;
+    }
+    let attacker = read_side(words.get(1)?)?;
+    let depth = read_up_to(words.get(2)?, MOST_TURNS as u64)? as u8;
+    let settings = read_options_of_one(words, 3)?;
+    Some(Asked {
+        attacker,
+        depth,
+        settings,
+    })
+}
+
+// The room that the words after a command's name and two more give, if there are any.
+fn read_last_room(words: &CommandWords, name: &str) -> Option<Option<u32>>
+    ensures form { IfSome result (λ room. EndWithRoom name.now words.now room) }
+    ensures none { IfNone result ((room : Option ℕ) → ¬ EndWithRoom name.now words.now room) }
+{
+    if is_named(words, name, 3) {
         return Some(None);
     }
-    if !is_named(words, "check", 5) {
+    if !is_named(words, name, 5) {
         return None;
     }
     match read_room(words.get(3)?, words.get(4)?) {
@@ -155,12 +174,13 @@ fn read_last_room(words: &CommandWords) -> Option<Option<u32>>
     }
 }
 
-// What the words ask of `check`: the name, a side, a number of turns, and maybe a room.
-fn read_check(words: &CommandWords) -> Option<Checking>
-    ensures form { IfSome result (λ asked. AreWords words.now (order.Check asked)) }
-    ensures none { IfNone result ((asked : Inspection) → ¬ AreWords words.now (order.Check asked)) }
+// What the words ask of a command of this name: a side, a number of turns, and maybe a room.
+fn read_checking(words: &CommandWords, name: &str) -> Option<Checking>
+    ensures form { IfSome result (AreCheckingWords name.now words.now) }
+    ensures none { IfNone result ((asked : Inspection)
+        → ¬ AreCheckingWords name.now words.now asked) }
 {
-    let room = read_last_room(words)?;
+    let room = read_last_room(words, name)?;
     let attacker = read_side(words.get(1)?)?;
     let depth = read_up_to(words.get(2)?, u64::from(MOST_TURNS))? as u8;
     Some(Checking {
@@ -210,8 +230,14 @@ pub fn read_command(words: &CommandWords) -> Option<Command<'_>>
     if let Some(asked) = read_prove(words) {
         return Some(Command::Prove(asked));
     }
-    if let Some(asked) = read_check(words) {
+    if let Some(asked) = read_checking(words, "check") {
         return Some(Command::Check(asked));
+    }
+    if let Some(asked) = read_refute(words) {
+        return Some(Command::Refute(asked));
+    }
+    if let Some(asked) = read_checking(words, "verify") {
+        return Some(Command::Verify(asked));
     }
     if let Some(text) = read_control(words) {
         return Some(Command::Control(text));

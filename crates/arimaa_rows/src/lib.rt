@@ -3,6 +3,8 @@
 #![tactic(auto)]
 
 #[cfg(test)]
+mod escapes;
+#[cfg(test)]
 mod faults;
 #[cfg(test)]
 mod matches;

@@ -551,32 +551,32 @@ fn lines(text: &[u8]) -> usize {
     text.iter().filter(|byte| **byte == b'\n').count()
 }
 
-// The words that ask `check` what these ask `prove`: its side and its number of turns. Less room than
-// usual is quicker to take.
-fn words_of_check(alloc: Global, words: &str) -> Result<String, AllocError> {
+// The words that ask a command what these ask `prove`: its side and its number of turns. Less room
+// than usual is quicker to take.
+fn words_of(alloc: Global, command: &str, words: &str) -> Result<String, AllocError> {
     let asked = match words.split_once(" --") {
         Some((asked, _)) => asked,
         None => words,
     };
     let rest = asked.strip_prefix("prove").unwrap_or(asked);
-    format!(in alloc; "check{rest} --room 20000")
+    format!(in alloc; "{command}{rest} --room 20000")
 }
 
-// The record of a question, and after it its answer without the first line, is accepted by `check`,
-// with the rank that `prove` found.
+// The record of a question, and after it an answer without the first line, is accepted by a command
+// that checks such answers, with this text.
 fn is_accepted<R: AllocGlobal + Threads + Sync + Abort>(
     rt: &R,
+    command: &str,
     question: &Question<'_>,
     answer: &[u8],
-    rank: &str,
+    wanted: &str,
 ) -> Result<(), Fail> {
     let alloc = rt.alloc();
-    let words = words_of_check(alloc, question.words)?;
+    let words = words_of(alloc, command, question.words)?;
     let mut both = Vec::from_slice(alloc, question.start.as_bytes())?;
     let first = first_line(answer).len();
     both.extend_from_slice(answer.get(first + 1..).unwrap_or(answer))?;
     let done = run(rt, &words, &Outside::plain(&both))?;
-    let wanted = format!(in alloc; "accepted {rank}\n")?;
     assert_eq!(rt; done.status, Status::Done, "{words}");
     assert_eq!(rt; done.output.as_slice(), wanted.as_bytes(), "{words}");
     Ok(())
@@ -591,7 +591,24 @@ fn accept_all<R: AllocGlobal + Threads + Sync + Abort>(
         if let Some(rank) = question.first.strip_prefix("yes ") {
             let start = question.start.as_bytes();
             let done = run(rt, question.words, &Outside::plain(start))?;
-            is_accepted(rt, question, &done.output, rank)?;
+            let wanted = format!(in rt.alloc(); "accepted {rank}\n")?;
+            is_accepted(rt, "check", question, &done.output, &wanted)?;
+        }
+    }
+    Ok(())
+}
+
+// Asks `refute` each question that is answered with no, and then `verify` about the escapes.
+fn refute_all<R: AllocGlobal + Threads + Sync + Abort>(
+    rt: &R,
+    questions: &[Question<'_>],
+) -> Result<(), Fail> {
+    for question in questions {
+        if question.first == "no" {
+            let words = words_of(rt.alloc(), "refute", question.words)?;
+            let done = run(rt, &words, &Outside::plain(question.start.as_bytes()))?;
+            assert_eq!(rt; done.status, Status::Done, "{words}");
+            is_accepted(rt, "verify", question, &done.output, "accepted\n")?;
         }
     }
     Ok(())
@@ -656,6 +673,15 @@ fn each_yes_is_accepted_by_check(rt: HostRuntime) -> Result<(), Fail> {
     accept_all(&rt, &FOUR)?;
     accept_all(&rt, &FIVE)?;
     accept_all(&rt, &LIMITS)
+}
+
+#[test]
+fn each_no_is_refuted_and_verified(rt: HostRuntime) -> Result<(), Fail> {
+    refute_all(&rt, &SHALLOW)?;
+    refute_all(&rt, &DEEP)?;
+    refute_all(&rt, &FOUR)?;
+    refute_all(&rt, &FIVE)?;
+    refute_all(&rt, &LIMITS)
 }
 
 #[test]

@@ -16,7 +16,7 @@ const CONTROL: &str =
     "1:30/0:00/50/0:00/60t/0:00\nturn 90000 reserve 0 percent 50 cap 0 game 60t limit 0\n";
 
 // What `clap` reads.
-const READ: [Row<'static>; 9] = [
+const READ: [Row<'static>; 12] = [
     // a value after an equals sign, and two words
     Row {
         words: "prove gold 2 --budget=1 --workers=1 --lines=1",
@@ -43,6 +43,25 @@ const READ: [Row<'static>; 9] = [
         input: ONE_TURN,
         output: CROWDED,
         status: Status::Crowded,
+    },
+    // the words of a game that Silver has lost, and of an input without a strategy
+    Row {
+        words: "prove --lines 5 gold 0",
+        input: "start 2s [R              r                                                ]\n",
+        output: "yes 0\nstrategy\n",
+        status: Status::Done,
+    },
+    Row {
+        words: "check --room 5 gold 1",
+        input: ONE_TURN,
+        output: "no strategy\n",
+        status: Status::Answered,
+    },
+    Row {
+        words: "check gold 1 --room=5",
+        input: ONE_TURN,
+        output: "no strategy\n",
+        status: Status::Answered,
     },
     // two dashes end the options
     Row {

@@ -1,17 +1,15 @@
 //! The command `check`: whether a strategy wins from the position that a lawful record ends with.
-ghost use Rattle.std.specs.Prelude.{◌≡◌, ◌+◌, ◌≤◌, ◌↔◌, None, Some, IfOk, IfSome, IsSome, IsTrue, length, option_map};
+ghost use Rattle.std.specs.Prelude.{◌≡◌, ◌+◌, ◌≤◌, None, Some, IfOk, IfSome, IsSome, length, option_map};
 ghost use Rattle.arimaa_model.specs.Game.{present};
-ghost use Rattle.arimaa_record.specs.Lines.{lines_of};
-ghost use Rattle.arimaa_cli.specs.Commands.Check.{IsCheckAnswer, IsFirstLine, IsMadeOf, IsRoomGiven, IsStrategyAnswer, SaysStrategy, accepted_text, answer_of, bad_line_text, refused_text, room_of, why_word};
+ghost use Rattle.arimaa_cli.specs.Commands.Check.{IsCheckAnswer, IsRoomGiven, IsStrategyAnswer, accepted_text, answer_of, room_of, why_word};
 ghost use Rattle.arimaa_cli.specs.Commands.Prove.{closing_word};
 
 use super::prove::{closing_word, ended_text};
 use crate::answer::{Answer, Text, push_number};
+use crate::parts::parts_of;
 use crate::record::{Game, Record, record_of};
-use crate::texts::crowded_text;
+use crate::texts::{bad_line_text, crowded_text, refused_text};
 use arimaa_board::Color;
-use arimaa_notation::first_item;
-use arimaa_record::first_line;
 use arimaa_region::Region;
 use arimaa_strategy::{Checked, StrategyFault, Why, check, read_strategy};
 use std::alloc::{AllocError, Global};
@@ -22,10 +20,11 @@ pub const MOST_ROOM: u32 = 1_048_576;
 /// The positions that there is room for where the words ask for none.
 pub const USUAL_ROOM: u32 = 262_144;
 
-/// What `check` is asked: whether a strategy wins for a side in at most so many turns.
+/// What `check` is asked, whether a strategy wins for a side in at most so many turns, and
+/// `verify`, whether escapes show that the side doesn't win so.
 #[derive(Clone, Copy, Debug)]
 pub struct Checking {
-    /// The side that plays the strategy.
+    /// The side that plays the strategy, or whose win the escapes are from.
     pub attacker: Color,
     /// The most turns that may be made, of both sides together, from 0 to `MOST_TURNS`.
     pub depth: u8,
@@ -35,72 +34,13 @@ pub struct Checking {
 }
 
 // The room that is given, or the usual one.
-fn room_of(room: Option<u32>) -> u32
+pub(super) fn room_of(room: Option<u32>) -> u32
     requires { IsRoomGiven room }
     ensures value { result ≡ room_of room }
     ensures some { 1 ≤ result }
     ensures most { result ≤ MOST_ROOM }
 {
     room.unwrap_or(USUAL_ROOM)
-}
-
-// How many bytes the first line has with its end.
-fn first_line_len(bytes: &[u8]) -> usize
-    requires { 1 ≤ length bytes.now }
-    ensures { IsFirstLine bytes.now result }
-{
-    for (place, byte) in bytes.iter().enumerate() {
-        if *byte == b'\n' {
-            return place + 1;
-        }
-    }
-    bytes.len()
-}
-
-// Whether a line says strategy.
-fn says_strategy(line: &[u8]) -> bool
-    ensures { IsTrue result ↔ SaysStrategy line.now }
-{
-    match first_item(line) {
-        Some((item, rest)) => item == b"strategy".as_slice() && first_item(rest).is_none(),
-        None => false,
-    }
-}
-
-// The parts of an input: a record, the number of the line after it, and, if that line says
-// strategy, what comes after it.
-#[derive(Clone, Copy)]
-struct Parts<'a> {
-    front: &'a [u8],
-    line: u64,
-    text: Option<&'a [u8]>,
-}
-
-// The parts of an input.
-fn parts_of(bytes: &[u8]) -> Parts<'_>
-    ensures made { IsMadeOf bytes.now result.front.now (option_map (λ x. x.now) result.text) }
-    ensures counted { result.line ≡ length (lines_of result.front.now) + 1 }
-    ensures few { IfSome result.text (λ x. result.line + length x.now ≤ length bytes.now) }
-{
-    let mut start: usize = 0;
-    let mut lines: u64 = 0;
-    while let Some((line, _)) = first_line(&bytes[start..]) {
-        let end = start + first_line_len(&bytes[start..]);
-        if says_strategy(line) {
-            return Parts {
-                front: &bytes[..start],
-                line: lines + 1,
-                text: Some(&bytes[end..]),
-            };
-        }
-        lines += 1;
-        start = end;
-    }
-    Parts {
-        front: bytes,
-        line: lines + 1,
-        text: None,
-    }
 }
 
 // The word for a reason.
@@ -129,28 +69,6 @@ fn accepted_text(alloc: Global, rank: u8) -> Result<Vec<u8>, AllocError>
     Ok(text)
 }
 
-// The text about a refused strategy.
-fn refused_text(alloc: Global, entry: u64, why: Why) -> Result<Vec<u8>, AllocError>
-    ensures { IfOk result (λ text. text.items ≡ refused_text entry why) }
-{
-    let mut text = Vec::from_slice(alloc, b"refused ")?;
-    push_number(&mut text, entry)?;
-    text.push(b' ')?;
-    text.extend_from_slice(why_word(why))?;
-    text.push(b'\n')?;
-    Ok(text)
-}
-
-// The text about a line that is no entry of a strategy.
-fn bad_line_text(alloc: Global, line: u64) -> Result<Vec<u8>, AllocError>
-    ensures { IfOk result (λ text. text.items ≡ bad_line_text line) }
-{
-    let mut text = Vec::from_slice(alloc, b"strategy ")?;
-    push_number(&mut text, line)?;
-    text.extend_from_slice(b" text\n")?;
-    Ok(text)
-}
-
 // The answer by what the checker finds.
 fn answer_of(alloc: Global, found: Checked) -> Result<Answer, AllocError>
     ensures { IfOk result (λ answer. answer ≡ answer_of found) }
@@ -158,7 +76,7 @@ fn answer_of(alloc: Global, found: Checked) -> Result<Answer, AllocError>
     match found {
         Checked::Accepted { rank } => Ok(Answer::Done(Text::new(accepted_text(alloc, rank)?))),
         Checked::Refused { entry, why } => {
-            Ok(Answer::Answered(Text::new(refused_text(alloc, entry, why)?)))
+            Ok(Answer::Answered(Text::new(refused_text(alloc, entry, why_word(why))?)))
         }
         Checked::Crowded { position } => {
             Ok(Answer::Crowded(Text::new(crowded_text(alloc, &position, 1)?)))
@@ -184,7 +102,7 @@ fn text_answer(
     match read_strategy(alloc, text, asked.attacker) {
         Err(StrategyFault::Memory) => Err(AllocError),
         Err(StrategyFault::Text { line: bad }) => {
-            Ok(Answer::Answered(Text::new(bad_line_text(alloc, line + bad)?)))
+            Ok(Answer::Answered(Text::new(bad_line_text(alloc, b"strategy", line + bad)?)))
         }
         Ok(strategy) => {
             let mut region = Region::with_room(alloc, room_of(asked.room))?;
@@ -231,7 +149,7 @@ pub(crate) fn answer(alloc: Global, asked: &Checking, bytes: &[u8]) -> Result<An
     requires { IsRoomGiven asked.now.room }
     ensures { IfOk result (IsCheckAnswer asked.now bytes.now) }
 {
-    let parts = parts_of(bytes);
+    let parts = parts_of(bytes, b"strategy");
     match record_of(alloc, parts.front)? {
         Record::Bad(text) => Ok(Answer::Answered(text)),
         Record::Lawful(game) => strategy_answer(alloc, asked, &game, parts.line, parts.text),

@@ -15,4 +15,4 @@ returns-in-Some-clause-form c =
     let both = two_words ws 3 c.in_ok-get.field-0.now c.in_ok-get-2.field-0.now c.in_ok-get.ensures.word c.in_ok-get-2.ensures.word in
     let end = nothing_left ws 5 (omega arith) in
     let last : drop 3 ws ≡ codes "--room" ∷ decimal c.in-Some.room ∷ [] = cc in
-    record { in_range = read.0; name = named.first; some = omega arith; last = last }
+    record { in_range = read.0; named = named.first; some = omega arith; last = last }
