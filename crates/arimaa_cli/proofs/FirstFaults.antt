@@ -1,5 +1,5 @@
 -- The first faulty entry of a list is one, and so is its fault.
-use Rattle.std.proofs.Common.{◌≡◌, ℕ, List, [], ◌∷◌, ◌++◌, length, true, false, Option, None, Some, refl, sym, ◌∙◌, ap, subst, arith, append_assoc, true≢false}
+use Rattle.std.proofs.Common.{◌≡◌, List, [], ◌∷◌, ◌++◌, length, true, false, Option, None, Some, refl, sym, ◌∙◌, ap, subst, arith, append_assoc, true≢false}
 use Rattle.std.proofs.lemmas.List.{append-nil}
 
 module _ (E W : Type 0) (fault : List E → E → Option W) (AreGood : List E → List E → Type 0)

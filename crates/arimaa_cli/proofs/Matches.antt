@@ -1,5 +1,5 @@
 -- What comes of a match: its status, the cause of an engine's fault, and the one control that words name.
-use Rattle.std.proofs.Common.{◌≡◌, ℕ, List, [], get_or, Option, inl, inr, Ok, refl, sym, ◌∙◌, ap, subst, ⊎_elim}
+use Rattle.std.proofs.Common.{◌≡◌, ℕ, List, [], get_or, Option, inl, inr, refl, sym, ◌∙◌, ap, subst, ⊎_elim}
 use Rattle.std.specs.Prelude.{◌⊎◌}
 use Rattle.arimaa_outside.specs.Counts.{Counts}
 use Rattle.arimaa_outside.specs.declared.status.Status.{Status}

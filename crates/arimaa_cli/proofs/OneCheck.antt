@@ -1,20 +1,15 @@
 -- Over given bytes check has one answer, unless a list is too long.
-use Rattle.std.proofs.Common.{◌≡◌, ℕ, ◌+◌, List, [], ◌∷◌, ◌++◌, length, Bool, true, false, cond, not, Option, None, Some, inl, inr, refl, sym, ◌∙◌, ap, subst, arith, append_assoc, ⊎_elim, le-leb, true≢false}
+use Rattle.std.proofs.Common.{◌≡◌, ℕ, ◌+◌, List, [], ◌∷◌, length, Bool, true, false, cond, not, Option, None, Some, inl, inr, refl, sym, ◌∙◌, ap, subst, arith, ⊎_elim, le-leb, true≢false}
 use Rattle.std.specs.Prelude.{◌⊎◌, nat_le, Result, Ok, Err}
-use Rattle.std.specs.List.{AllByRecursion, Contains}
+use Rattle.std.specs.List.{Contains}
 use Rattle.std.specs.Option.{option_map}
-use Rattle.std.proofs.lemmas.List.{append-nil}
 use Rattle.std.proofs.lemmas.List.Elements.{Contains-append_right}
 use Rattle.arimaa_board.specs.declared.piece.Color.{Color}
 use Rattle.arimaa_board.specs.declared.position.Position.{Position}
 use Rattle.arimaa_forced.specs.declared.entry.Entry.{Entry}
 use Rattle.arimaa_forced.specs.Acceptance.{is_ready, root_rank}
 use Rattle.arimaa_forced.specs.Entries.{AcceptsEntries}
-use Rattle.arimaa_judge.specs.declared.judgement.Judged.{Judged}
 use Rattle.arimaa_judge.specs.Agreement.{JudgementsAgree}
-use Rattle.arimaa_judge.specs.Judged.{IsJudged, IsJudgedFrom}
-use Rattle.arimaa_judge.specs.RecordState.{before_lines}
-use Rattle.arimaa_judge.specs.Texts.{text_of_bad}
 use Rattle.arimaa_model.specs.Game.{barred_by}
 use Rattle.arimaa_model.specs.Results.{next}
 use Rattle.arimaa_record.specs.Lines.{lines_of}

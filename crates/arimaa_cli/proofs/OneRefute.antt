@@ -1,5 +1,5 @@
 -- Over given bytes refute has one answer, unless the maker of escapes stops short.
-use Rattle.std.proofs.Common.{◌≡◌, ℕ, List, inl, inr, refl, sym, ◌∙◌, ap, subst, true≢false}
+use Rattle.std.proofs.Common.{ℕ, List, inl, inr, refl, sym, ◌∙◌, ap, subst, true≢false}
 use Rattle.std.specs.Prelude.{Ok}
 use Rattle.arimaa_board.specs.declared.position.Position.{Position}
 use Rattle.arimaa_refute.specs.declared.escape.Escape.{Escape}

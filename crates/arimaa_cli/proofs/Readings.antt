@@ -1,6 +1,6 @@
 -- How words are read: as one list. And what holds where memory runs out before that.
 use Rattle.std.proofs.Common.{◌≡◌, ℕ, List, [], Option, None, Some, inl, inr, refl, sym, ◌∙◌, ap, subst, ⊎_elim}
-use Rattle.std.specs.Prelude.{◌⊎◌, IfNone, IfOk, IfSome, Result, Ok, Err, alloc_error, unwrap_or}
+use Rattle.std.specs.Prelude.{IfNone, IfOk, IfSome, Result, Ok, Err, alloc_error, unwrap_or}
 use Rattle.std.specs.declared.alloc.AllocError.{AllocError}
 use mathlib.Core.List.{append-nil}
 use Rattle.arimaa_outside.specs.Told.{told_after, told_before}
@@ -13,11 +13,10 @@ use Rattle.arimaa_match.specs.Programs.{Spawned}
 use Rattle.arimaa_cli.specs.declared.commands.Call.{Call}
 use Rattle.arimaa_cli.specs.declared.commands.Command.{Command}
 use Rattle.arimaa_cli.specs.Commands.{AreWords}
-use Rattle.arimaa_outside.specs.Writing.{Outputs}
 use Rattle.arimaa_cli.specs.Calls.{Answers, Inputs}
 use Rattle.arimaa_cli.specs.OtherWords.{AreMatched, rows_for, values_of}
 use Rattle.arimaa_cli.specs.Play.{AsksNoMatch, Played}
-use Rattle.arimaa_cli.specs.Reading.{ArePlain, AreReadAs, AsRead}
+use Rattle.arimaa_cli.specs.Reading.{AreReadAs, AsRead}
 use Rattle.arimaa_cli.specs.Reading.AreReadAs.{matched, plain, refused}
 
 one_matched : (words a b : List (List ℕ)) → AreMatched words a → AreMatched words b → a ≡ b

@@ -13,7 +13,7 @@ use Rattle.arimaa_match.specs.declared.ending.MatchDone.{MatchDone}
 use Rattle.arimaa_match.specs.declared.ending.MatchEnd.{MatchEnd}
 use Rattle.arimaa_match.specs.declared.ending.MatchEnd.TheVariants as end
 use Rattle.arimaa_match.specs.Parts.{IsNoMemory}
-use Rattle.arimaa_match.specs.Programs.{HasSpawnerCause, ProgramsWent, Spawned}
+use Rattle.arimaa_match.specs.Programs.{ProgramsWent, Spawned}
 use Rattle.arimaa_match.specs.Records.{IsLawfulMatch}
 use Rattle.arimaa_match.specs.Texts.{text_of_match}
 use Rattle.arimaa_cli.specs.declared.play.Pairing.{Pairing}

@@ -1,5 +1,5 @@
 -- What is answered about the position that a game stands at.
-use Rattle.std.specs.Prelude.{◌≡◌, ℕ, List, Option, None, Some, codes}
+use Rattle.std.specs.Prelude.{◌≡◌, ℕ, List, None, Some, codes}
 use Rattle.arimaa_board.specs.declared.ending.Word.{Word}
 use Rattle.arimaa_board.specs.declared.position.Position.{Position}
 use Rattle.arimaa_judge.specs.Texts.{line}

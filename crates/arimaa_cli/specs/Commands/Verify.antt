@@ -1,5 +1,5 @@
 -- What verify answers over an input: a record, a line that says escapes, and a text of escapes.
-use Rattle.std.specs.Prelude.{◌≡◌, ◌+◌, ℕ, List, Option, Some, codes}
+use Rattle.std.specs.Prelude.{◌+◌, ℕ, List, Option, Some, codes}
 use Rattle.arimaa_board.specs.declared.position.Position.{Position}
 use Rattle.arimaa_judge.specs.Texts.{line}
 use Rattle.arimaa_model.specs.Game.{barred_by}

@@ -1,4 +1,4 @@
-use Rattle.std.proofs.Common.{◌≡◌, ◌∙◌, List, ℕ, map, true, ap, refl, sym, subst, ⊎_elim}
+use Rattle.std.proofs.Common.{◌≡◌, ◌∙◌, map, true, ap, refl, sym, subst, ⊎_elim}
 use Rattle.clap.specs.Words.{App, app_of, fault_of, is_simple, is_simple_and_free}
 use Rattle.clap.specs.Words.{matches_of as found_in, IsAmong, Kinds, kind_of}
 use Rattle.arimaa_cli.specs.OtherWords.{faults_of, rows_for, words_app}

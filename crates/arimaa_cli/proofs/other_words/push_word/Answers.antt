@@ -1,6 +1,6 @@
 use Rattle.std.proofs.Common.{◌≡◌, ◌++◌, List, ℕ, Option, OnOk, subst, sym, ◌∙◌}
 use mathlib.Core.List.{append-nil}
-use Rattle.clap.specs.Words.{found_of, rows_of}
+use Rattle.clap.specs.Words.{found_of}
 use Rattle.clap.proofs.WalkLemmas.{first_value-rows}
 use Rattle.arimaa_cli.specs.OtherWords.{one_word}
 use Rattle.arimaa_cli.proofs.other_words.push_word.Goals as goal

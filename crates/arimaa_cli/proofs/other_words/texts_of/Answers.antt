@@ -1,4 +1,4 @@
-use Rattle.std.proofs.Common.{◌≡◌, ◌∙◌, ◌++◌, ◌∷◌, [], List, ℕ, ap, length, map, sym, arith}
+use Rattle.std.proofs.Common.{◌∙◌, ◌++◌, ◌∷◌, [], List, ℕ, ap, map, sym, arith}
 use lib.Seq.{take_all}
 use Rattle.arimaa_cli.proofs.OtherForms.{map_more, one_more}
 use Rattle.arimaa_cli.proofs.other_words.texts_of.Goals as goal

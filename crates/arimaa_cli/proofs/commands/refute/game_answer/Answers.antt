@@ -1,4 +1,4 @@
-use Rattle.std.proofs.Common.{◌≡◌, ap, is_some}
+use Rattle.std.proofs.Common.{ap, is_some}
 use Rattle.std.proofs.lemmas.Result.{IfOk-weaker}
 use Rattle.arimaa_game.proofs.Endings.{present-some}
 use Rattle.arimaa_cli.specs.Positions.IsAnswerAt.{told, unasked}

@@ -1,9 +1,8 @@
-use Rattle.std.proofs.Common.{◌≡◌, ◌∙◌, true, Err, Some, ap, arith, is_some, subst, refl}
+use Rattle.std.proofs.Common.{◌∙◌, Err, ap, arith, subst}
 use Rattle.arimaa_model.specs.Game.{barred_by}
 use Rattle.arimaa_refute.specs.Checks.{IsVerified}
 use Rattle.arimaa_cli.specs.Commands.Verify.IsEscapesAnswer.{bad_line, verified}
 use Rattle.arimaa_cli.specs.Commands.Verify.{IsEscapesAnswer, answer_of}
-use Rattle.arimaa_cli.specs.Commands.Check.{room_of}
 use Rattle.arimaa_cli.proofs.CheckAnswers.{line_within, told_so}
 use Rattle.arimaa_cli.proofs.commands.verify.escapes_answer.Goals as goal
 
