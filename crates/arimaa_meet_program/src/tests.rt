@@ -54,6 +54,14 @@ const UNSTARTED: &str = "match 1 1 2\n\
     program 1 wins 0 losses 0 limits 0 faults 1\n\
     program 2 wins 0 losses 0 limits 0 faults 1\n";
 
+// The program `b` can't be started: it is Silver's in the first match, and Gold's in the second.
+const ONE_UNSTARTED: &str = "match 1 1 2\n\
+    # engine silver failed\n\
+    match 2 2 1\n\
+    # engine gold failed\n\
+    program 1 wins 0 losses 0 limits 0 faults 0\n\
+    program 2 wins 0 losses 0 limits 0 faults 2\n";
+
 // How a run ended, and what it wrote.
 #[derive(Drop)]
 struct Done {
@@ -231,6 +239,106 @@ fn no_program_starts(rt: HostRuntime) -> Result<(), Fail> {
     check(&rt, &done, Status::Done, UNSTARTED);
     let done = with_one(&rt, alloc, "1/5 a b", none(alloc)?, 0)?;
     check(&rt, &done, Status::Done, UNSTARTED);
+    Ok(())
+}
+
+// A program that can't be started costs its own side alone, beside one that starts.
+#[test]
+fn one_program_starts(rt: HostRuntime) -> Result<(), Fail> {
+    let alloc = rt.alloc();
+    let ports = Vec::from_array(alloc, [port(alloc, &GOLD)?, port(alloc, &SILVER)?])?;
+    let spawner = MemSpawner::new(alloc, ports, Vec::from_array(alloc, [2, 3])?)?;
+    let done = with_one(&rt, alloc, "1/5 a b", spawner, 0)?;
+    check(&rt, &done, Status::Done, ONE_UNSTARTED);
+    let first = MemSpawner::new(
+        alloc,
+        Vec::from_array(alloc, [port(alloc, &GOLD)?])?,
+        Vec::from_array(alloc, [2])?,
+    )?;
+    let second = MemSpawner::new(
+        alloc,
+        Vec::from_array(alloc, [port(alloc, &SILVER)?])?,
+        Vec::from_array(alloc, [1])?,
+    )?;
+    let done = with_two(&rt, alloc, "1/5 a b", [first, second])?;
+    check(&rt, &done, Status::Done, ONE_UNSTARTED);
+    Ok(())
+}
+
+// A spawner that notes whether the programs that it is asked for are these, in order.
+#[derive(Drop)]
+struct NotingSpawner {
+    due: &'static [&'static str],
+    is_as_due: bool,
+    inner: MemSpawner,
+}
+
+impl NotingSpawner {
+    // A spawner that is to be asked for these programs.
+    fn new(due: &'static [&'static str], inner: MemSpawner) -> Self {
+        NotingSpawner {
+            due,
+            is_as_due: true,
+            inner,
+        }
+    }
+
+    // Whether it was asked for each of them, in order, and for none else.
+    fn was_asked_as_due(&self) -> bool {
+        self.is_as_due && self.due.is_empty()
+    }
+}
+
+impl Spawner for NotingSpawner {
+    type Link = MemPort;
+
+    ghost waiting = { λ s. Some s.inner.waiting };
+
+    ghost back = { λ s. Some s.inner.back };
+
+    ghost answers = { λ s. Some s.inner.answers };
+
+    ghost counts = { λ s. spawner_counts s.inner };
+
+    fn open(&mut self, program: &str) -> Result<MemPort, PortFault> {
+        match self.due {
+            [next, rest @ ..] if *next == program => self.due = rest,
+            _ => self.is_as_due = false,
+        }
+        self.inner.open(program)
+    }
+
+    fn close(&mut self, link: MemPort) {
+        self.inner.close(link)
+    }
+}
+
+// The programs that are started are those of each pair, Gold's before Silver's, with one worker and
+// with two.
+#[test]
+fn programs_of_each_pair(rt: HostRuntime) -> Result<(), Fail> {
+    let alloc = rt.alloc();
+    let words = words_of(alloc, "1/5 a b")?;
+    let mut sink = MemSink::new(alloc, 1 << 20, Vec::new(alloc));
+    let spawner = NotingSpawner::new(&["a", "b", "b", "a"], both(alloc)?);
+    let mut spawners = Vec::from_array(alloc, [spawner])?;
+    let mut clocks = Vec::from_array(alloc, [clock(alloc)])?;
+    let status = run_meet(&rt, alloc, &words, &mut sink, &mut spawners, &mut clocks);
+    assert_eq!(rt; status, Status::Done);
+    assert!(rt; spawners.iter().all(|spawner| spawner.was_asked_as_due()));
+
+    let mut sink = MemSink::new(alloc, 1 << 20, Vec::new(alloc));
+    let mut spawners = Vec::from_array(
+        alloc,
+        [
+            NotingSpawner::new(&["a", "b"], first(alloc)?),
+            NotingSpawner::new(&["b", "a"], second(alloc)?),
+        ],
+    )?;
+    let mut clocks = Vec::from_array(alloc, [clock(alloc), clock(alloc)])?;
+    let status = run_meet(&rt, alloc, &words, &mut sink, &mut spawners, &mut clocks);
+    assert_eq!(rt; status, Status::Done);
+    assert!(rt; spawners.iter().all(|spawner| spawner.was_asked_as_due()));
     Ok(())
 }
 

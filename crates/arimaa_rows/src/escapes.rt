@@ -358,7 +358,42 @@ const CHANGES: [Change; 40] = [
     },
 ];
 
-const ROWS: [Row<'static>; 24] = [
+const ROWS: [Row<'static>; 29] = [
+    // the first of Silver's turns would make a position stand for the third time
+    Row {
+        words: "refute gold 1",
+        input: "start 2s [   r   e                                                E  R    ]\n2s eh8w\n3g Ea1e\n3s eg8e\n4g Eb1w\n4s eh8w\n5g Ea1n\n5s eg8s\n6g Ea2s\n",
+        output: "held\nescapes\n1 [   r          e                                         E  R    ] eg7e\n",
+        status: Status::Done,
+    },
+    // without that history it may be played
+    Row {
+        words: "refute gold 1",
+        input: "start 6s [   r          e                                         E  R    ]\n",
+        output: "held\nescapes\n1 [   r          e                                         E  R    ] eg7n\n",
+        status: Status::Done,
+    },
+    // it is no escape where it would make a position stand for the third time
+    Row {
+        words: "verify gold 1",
+        input: "start 2s [   r   e                                                E  R    ]\n2s eh8w\n3g Ea1e\n3s eg8e\n4g Eb1w\n4s eh8w\n5g Ea1n\n5s eg8s\n6g Ea2s\nescapes\n1 [   r          e                                         E  R    ] eg7n\n",
+        output: "refused 1 turn\n",
+        status: Status::Answered,
+    },
+    // another turn is one
+    Row {
+        words: "verify gold 1",
+        input: "start 2s [   r   e                                                E  R    ]\n2s eh8w\n3g Ea1e\n3s eg8e\n4g Eb1w\n4s eh8w\n5g Ea1n\n5s eg8s\n6g Ea2s\nescapes\n1 [   r          e                                         E  R    ] eg7e\n",
+        output: "accepted\n",
+        status: Status::Done,
+    },
+    // without that history it is one too
+    Row {
+        words: "verify gold 1",
+        input: "start 6s [   r          e                                         E  R    ]\nescapes\n1 [   r          e                                         E  R    ] eg7n\n",
+        output: "accepted\n",
+        status: Status::Done,
+    },
     // after each of Gold's moves Silver has one
     Row {
         words: "refute gold 2",

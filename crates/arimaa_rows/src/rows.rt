@@ -3,7 +3,7 @@ use crate::runs::{Row, check, refuse_all};
 use arimaa_outside::Status;
 use std::test::Fail;
 
-const ROWS: [Row<'static>; 35] = [
+const ROWS: [Row<'static>; 36] = [
     // the elephant's steps come first and win nothing
     Row {
         words: "prove gold 1",
@@ -247,6 +247,13 @@ const ROWS: [Row<'static>; 35] = [
         words: "make 7 3",
         input: "",
         output: "turns 3\nbytes 208\nnext 3s\n",
+        status: Status::Done,
+    },
+    // the game ends before so many turns are made: its values are those of the generator in plain Rust
+    Row {
+        words: "make 7 100",
+        input: "",
+        output: "turns 72\nbytes 1856\nwinner silver goal\n",
         status: Status::Done,
     },
 ];
