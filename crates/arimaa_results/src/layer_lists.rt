@@ -2,7 +2,7 @@
 ghost use Rattle.std.specs.Prelude.{◌≡◌, ℕ, suc, true, false, ◌+◌, ◌-◌, ◌<◌, ◌≤◌, ◌∷◌, ◌++◌, List, [], length, is_ok, is_err, is_some, IsOk, IfOk, IfErr, IfSome, None, OnOk, OnErr, IsTrue, ◌^◌, drop};
 ghost use Rattle.std.specs.List.{flat_map};
 ghost use Rattle.arimaa_model.specs.Results.{next};
-ghost use Rattle.arimaa_region.specs.Segments.{live_of, below_top};
+ghost use Rattle.arimaa_region.specs.Segments.{live_of, below_top, top};
 ghost use Rattle.arimaa_board.specs.Board.{at};
 ghost use Rattle.arimaa_step.specs.declared.state.TurnState.{TurnState};
 ghost use Rattle.arimaa_step.specs.Next.{next_answer, next_state};
@@ -14,14 +14,17 @@ ghost use Rattle.arimaa_region.specs.Same.{same_words};
 ghost use Rattle.arimaa_results.specs.LastSteps.{is_next, brings_in_order, thirds_in_order, brings_first, left_of_kept};
 ghost use Rattle.arimaa_results.specs.NextStates.{next_gives, next_pairs};
 ghost use Rattle.arimaa_results.specs.Layering.{keeps, planes_after, layer, layers_to, brings_next, brought_from, IsKept};
-ghost use Rattle.arimaa_results.specs.Stopped.{IfRoom, IfWork, is_room, is_work};
+ghost use Rattle.arimaa_results.specs.Listed.{IsListed, is_won_by, may_end};
+ghost use Rattle.std.specs.List.{list_any};
+ghost use Rattle.arimaa_results.specs.Stopped.{IfRoom, IfWork, is_room, is_work, is_won};
 
 use crate::last_steps::LastSteps;
 use crate::next_states::{NextStates, take_step};
-use crate::stop::{LayerFull, Stop, full_by};
+use crate::stop::{LayerFull, Stop, Until, full_by};
 use crate::turn_walk::{NoRoom, fill_ends, place_end};
-use arimaa_board::{Position, Square, Step, contains};
+use arimaa_board::{Board, Color, Position, Square, Step, contains};
 use arimaa_history::Barred;
+use arimaa_model::decided;
 use arimaa_region::{Mark, Placed, Region};
 use arimaa_step::TurnState;
 
@@ -32,6 +35,7 @@ fn keep(state: &TurnState, region: &mut Region) -> Result<(), Stop>
     ensures kept { IsKept region.old.work region.new.work
         (is_ok result) (is_work result) (keeps state.now) }
     ensures never { is_room result ≡ false }
+    ensures unwon { is_won result ≡ false }
     ensures segments { region.new ≡ record region.old { work = region.new.work } }
 {
     match region.work_place(state.planes()) {
@@ -50,6 +54,7 @@ fn take(state: &TurnState, barred: &Barred, region: &mut Region) -> Result<(), S
         (brings barred.now 0 state.now) }
     ensures kept { IsKept region.old.work region.new.work
         (is_ok result) (is_work result) (keeps state.now) }
+    ensures unwon { is_won result ≡ false }
 {
     match place_end(state, barred, region) {
         Err(_) => Err(Stop::Room),
@@ -65,6 +70,7 @@ fn take_all(states: NextStates<'_>, barred: &Barred, region: &mut Region) -> Res
         (flat_map (next_gives (brings barred.now 0)) states.entry) }
     ensures kept { IsKept region.old.work region.new.work (is_ok result) (is_work result)
         (flat_map (next_gives keeps) states.entry) }
+    ensures unwon { is_won result ≡ false }
 {
     let mut left = states;
     while let Some((_, next)) = left.advance() {
@@ -81,8 +87,50 @@ fn extend(state: &TurnState, barred: &Barred, region: &mut Region) -> Result<(),
         (brings barred.now 1 state.now) }
     ensures kept { IsKept region.old.work region.new.work (is_ok result) (is_work result)
         (flat_map keeps (next_states state.now)) }
+    ensures unwon { is_won result ≡ false }
 {
     take_all(NextStates::of(state), barred, region)
+}
+
+// Whether the rules have decided a position for a side.
+fn is_won_by(p: &Position, side: Color) -> bool
+    ensures { result ≡ is_won_by side p.now }
+{
+    match decided(p) {
+        Some(ending) => ending.winner == side,
+        None => false,
+    }
+}
+
+// Whether one of the positions from a place of the top segment on is decided for a side.
+fn is_any_won(side: Color, first: u32, region: &Region) -> bool
+    requires { length (live_of (below_top region.now.segments)) ≤ first }
+    ensures { IsTrue result → list_any (is_won_by side) (top region.now.segments) ≡ true }
+{
+    for place in first..region.live() {
+        let reached = region.get(place);
+        if is_won_by(&reached, side) {
+            return true;
+        }
+    }
+    false
+}
+
+// Whether the list may end with the positions from a place of the top segment on, to which at most
+// two steps of a side lead from a board. They are looked through only where it has a rabbit there that
+// may reach its goal row by those.
+fn ends_list(until: Until, board: &Board, side: Color, first: u32, region: &Region) -> bool
+    requires { length (live_of (below_top region.now.segments)) ≤ first }
+    ensures { IsTrue result → may_end until side (top region.now.segments) ≡ true }
+{
+    let near = match side {
+        Color::Gold => 0xffff_ff00_0000_0000,
+        Color::Silver => 0x00ff_ffff,
+    };
+    match until {
+        Until::All => false,
+        Until::Win => board.rabbits(side) & near != 0 && is_any_won(side, first, region),
+    }
 }
 
 // Takes the states that one step makes.
@@ -94,6 +142,7 @@ fn first_layer(p: &Position, barred: &Barred, region: &mut Region) -> Result<(),
     ensures kept { OnOk result (region.new.work.segments ≡ layers_to p.now 1) }
     ensures work { is_work result ≡ true
         → region.old.work.room < length (live_of (layers_to p.now 1)) }
+    ensures unwon { is_won result ≡ false }
 {
     let _corner = p.board.at(Square::C3);
     region.work_clear();
@@ -107,6 +156,7 @@ fn next_layer(
     p: &Position,
     lower: u8,
     first: u32,
+    until: Until,
     barred: &Barred,
     region: &mut Region,
 ) -> Result<(), Stop>
@@ -120,13 +170,19 @@ fn next_layer(
     ensures kept { OnOk result (region.new.work.segments ≡ layers_to p.now (suc (suc lower))) }
     ensures work { is_work result ≡ true
         → region.old.work.room < length (live_of (layers_to p.now (suc (suc lower)))) }
+    ensures won { is_won result ≡ true
+        → may_end until p.now.side (top region.new.segments) ≡ true }
 {
     let _corner = p.board.at(Square::C3);
     let end = region.work_len();
     region.work_layer();
     for place in first..end {
         let state = TurnState::from_planes(p, region.work_get(place));
+        let from = region.live();
         extend(&state, barred, region)?;
+        if ends_list(until, state.board(), p.side, from, region) {
+            return Err(Stop::Won);
+        }
     }
     Ok(())
 }
@@ -233,22 +289,33 @@ fn last_steps(
     p: &Position,
     second: u32,
     third: u32,
+    until: Until,
     barred: &Barred,
     region: &mut Region,
-) -> Result<(), NoRoom>
+) -> Result<(), Stop>
     requires open { 0 < length region.old.segments }
     requires layers { region.old.work.segments ≡ layers_to p.now 3 }
     requires second { second ≡ length (live_of (layers_to p.now 1)) }
     requires third { third ≡ length (live_of (layers_to p.now 2)) }
-    ensures filled { IsFilled region.old region.new (is_ok result) (is_err result)
+    ensures filled { IsFilled region.old region.new (is_ok result) (is_room result)
         (brought_from barred.now p.now 3) }
     ensures work { region.new.work ≡ region.old.work }
+    ensures layers { is_work result ≡ false }
+    ensures won { is_won result ≡ true
+        → may_end until p.now.side (top region.new.segments) ≡ true }
 {
     let _corner = p.board.at(Square::C3);
     let mut next = third;
     for place in second..third {
         let state = TurnState::from_planes(p, region.work_get(place));
-        next = last_steps_from(&state, next, barred, region)?;
+        let from = region.live();
+        let Ok(after) = last_steps_from(&state, next, barred, region) else {
+            return Err(Stop::Room);
+        };
+        if ends_list(until, state.board(), p.side, from, region) {
+            return Err(Stop::Won);
+        }
+        next = after;
     }
     Ok(())
 }
@@ -275,6 +342,7 @@ fn third_steps_from(
     ensures next { IfOk result (λ next. drop next (live_of (below_top region.old.work.segments))
         ≡ left_of_kept (drop first (live_of (below_top region.old.work.segments)))
         (next_pairs state.now)) }
+    ensures unwon { is_won result ≡ false }
 {
     let mut next = first;
     let mut steps = state.accepted();
@@ -290,7 +358,13 @@ fn third_steps_from(
 // Takes the states that a third step makes, in order. The states after two steps, which are kept from the place `second`
 // on, are made again from those after one, so that the step that made each is known. Of few states all third steps are
 // taken, which costs less.
-fn third_layer(p: &Position, second: u32, barred: &Barred, region: &mut Region) -> Result<(), Stop>
+fn third_layer(
+    p: &Position,
+    second: u32,
+    until: Until,
+    barred: &Barred,
+    region: &mut Region,
+) -> Result<(), Stop>
     requires open { 0 < length region.old.segments }
     requires layers { region.old.work.segments ≡ layers_to p.now 2 }
     requires second { second ≡ length (live_of (layers_to p.now 1)) }
@@ -300,23 +374,29 @@ fn third_layer(p: &Position, second: u32, barred: &Barred, region: &mut Region) 
     ensures kept { OnOk result (region.new.work.segments ≡ layers_to p.now 3) }
     ensures work { is_work result ≡ true
         → region.old.work.room < length (live_of (layers_to p.now 3)) }
+    ensures won { is_won result ≡ true
+        → may_end until p.now.side (top region.new.segments) ≡ true }
 {
     let _corner = p.board.at(Square::C3);
     let end = region.work_len();
     if end < 64 {
-        return next_layer(p, 1, second, barred, region);
+        return next_layer(p, 1, second, until, barred, region);
     }
     region.work_layer();
     let mut next = second;
     for place in 0..second {
         let state = TurnState::from_planes(p, region.work_get(place));
+        let from = region.live();
         next = third_steps_from(&state, next, end, barred, region)?;
+        if ends_list(until, state.board(), p.side, from, region) {
+            return Err(Stop::Won);
+        }
     }
     Ok(())
 }
 
 // Fills the layers, and places what they bring about.
-fn fill_layers(p: &Position, barred: &Barred, region: &mut Region) -> Result<(), Stop>
+fn fill_layers(p: &Position, until: Until, barred: &Barred, region: &mut Region) -> Result<(), Stop>
     requires open { 0 < length region.old.segments }
     ensures filled { IsFilled region.old region.new (is_ok result) (is_room result)
         (flat_map (brought_from barred.now p.now) (0 ∷ 1 ∷ 2 ∷ 3 ∷ [])) }
@@ -324,16 +404,19 @@ fn fill_layers(p: &Position, barred: &Barred, region: &mut Region) -> Result<(),
     ensures kept { OnOk result (region.new.work.segments ≡ layers_to p.now 3) }
     ensures work { is_work result ≡ true
         → region.old.work.room < length (live_of (layers_to p.now 3)) }
+    ensures won { is_won result ≡ true
+        → may_end until p.now.side (top region.new.segments) ≡ true }
 {
+    let from = region.live();
     first_layer(p, barred, region)?;
-    let second = region.work_len();
-    next_layer(p, 0, 0, barred, region)?;
-    let third = region.work_len();
-    third_layer(p, second, barred, region)?;
-    match last_steps(p, second, third, barred, region) {
-        Ok(()) => Ok(()),
-        Err(_) => Err(Stop::Room),
+    if ends_list(until, &p.board, p.side, from, region) {
+        return Err(Stop::Won);
     }
+    let second = region.work_len();
+    next_layer(p, 0, 0, until, barred, region)?;
+    let third = region.work_len();
+    third_layer(p, second, until, barred, region)?;
+    last_steps(p, second, third, until, barred, region)
 }
 
 /// Fills a new top segment with the results of a position without the barred ones, as `results` does, and the layers
@@ -357,11 +440,50 @@ pub fn layered(p: &Position, barred: &Barred, region: &mut Region) -> Result<Mar
     let _corner = p.board.at(Square::C3);
     let live = region.live();
     let mark = region.mark();
-    match fill_layers(p, barred, region) {
+    match fill_layers(p, Until::All, barred, region) {
         Ok(()) => Ok(mark),
         Err(stop) => {
             region.release(mark);
             Err(full_by(stop, live))
         }
+    }
+}
+
+/// The same, but the list may end once it has a position that the rules have decided for the side to
+/// move, and then without all layers.
+pub(crate) fn layered_to_win(
+    p: &Position,
+    barred: &Barred,
+    region: &mut Region,
+) -> Result<Mark, LayerFull>
+    requires { length region.old.segments < 64 }
+    ensures mark { IfOk result (λ mark. mark ≡ length region.old.segments) }
+    ensures opened { OnOk result (length region.new.segments ≡ suc (length region.old.segments)) }
+    ensures below { OnOk result (below_top region.new.segments ≡ region.old.segments) }
+    ensures listed { OnOk result (IsListed (list_any (is_won_by p.now.side)
+        (top region.new.segments)) barred.now p.now (top region.new.segments)) }
+    ensures room { IfErr result (λ full. IfRoom full (λ live. (live ≡ length
+        (live_of region.old.segments)) ×
+        (region.old.room < live + length (next barred.now p.now)))) }
+    ensures unchanged { OnErr result (region.new ≡ record region.old { work = region.new.work }) }
+    ensures room_kept { region.new.room ≡ region.old.room }
+    ensures layers_room { region.new.work.room ≡ region.old.work.room }
+{
+    let _corner = p.board.at(Square::C3);
+    let live = region.live();
+    let opened = region.mark();
+    match fill_layers(p, Until::Win, barred, region) {
+        Ok(()) => Ok(opened),
+        Err(stop) => match stop {
+            Stop::Won => Ok(opened),
+            Stop::Room => {
+                region.release(opened);
+                Err(LayerFull::Room { live })
+            }
+            Stop::Work => {
+                region.release(opened);
+                Err(LayerFull::Work)
+            }
+        },
     }
 }

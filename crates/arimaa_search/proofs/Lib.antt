@@ -3,3 +3,4 @@ pub mod Leaves
 pub mod Lists
 pub mod Looking
 pub mod Tracing
+pub mod WonPositions

@@ -1,11 +1,11 @@
 -- The places of the top segment.
-use Rattle.std.proofs.Common.{◌≡◌, ℕ, ◌+◌, ◌≤◌, List, [], ◌∷◌, length, drop, Some, ◌∙◌, sym, ap, arith, length-append, drop-drop}
+use Rattle.std.proofs.Common.{◌≡◌, ℕ, ◌+◌, ◌≤◌, ◌<◌, List, [], ◌∷◌, ◌++◌, length, drop, Some, ◌∙◌, refl, sym, ap, arith, length-append, drop-drop}
 use Rattle.std.specs.List.{slice_get}
 use Rattle.std.proofs.Math.Seq.{drop-append_seam}
 use Rattle.std.proofs.Math.ListN.{drop_of_length-le}
 use Rattle.std.proofs.lemmas.List.{drop_more}
 use Rattle.std.proofs.lemmas.Option.{get_or_from_slice_get, slice_get_within}
-use Rattle.arimaa_region.specs.Segments.{live_of, below_top}
+use Rattle.arimaa_region.specs.Segments.{live_of, below_top, top}
 
 module _ {X : Type 0} where
   -- they come after those of the segments below
@@ -19,6 +19,17 @@ module _ {X : Type 0} where
   pub live-length : (segments : List (List X)) (qs : List X) (first : ℕ) → segments ≡ qs ∷ below_top segments → first ≡ length (live_of (below_top segments)) → length (live_of segments) ≡ first + length qs
   live-length segments qs first is at =
       let sum : length (live_of segments) ≡ length (live_of (below_top segments)) + length qs = ap (λ s. length (live_of s)) is ∙ length-append (live_of (below_top segments)) qs in
+      omega arith
+
+  -- the top segment and those below
+  pub two_parts : (segments : List (List X)) → 0 < length segments → segments ≡ top segments ∷ below_top segments
+  two_parts [] some = absurd (omega arith)
+  two_parts (s ∷ below) some = refl
+
+  -- a part is no longer than the whole
+  pub part_length : (part rest whole : List X) (live first : ℕ) → whole ≡ part ++ rest → live ≡ first + length part → live ≤ first + length whole
+  part_length part rest whole live first is count =
+      let sum : length whole ≡ length part + length rest = ap (length {A = X}) is ∙ length-append part rest in
       omega arith
 
   -- the place that is looked at is the first of those left

@@ -1,5 +1,5 @@
 -- What a look through the next positions answers.
-use Rattle.std.proofs.Common.{◌≡◌, ℕ, suc, ◌+◌, List, [], ◌∷◌, length, None, Bool, true, false, cond, not, Ok, Err, Result, drop, refl, sym, subst, arith}
+use Rattle.std.proofs.Common.{◌≡◌, ℕ, suc, ◌+◌, ◌≤◌, List, [], ◌∷◌, length, None, Bool, true, false, cond, not, Ok, Err, Result, drop, refl, sym, subst, arith}
 use mathlib.Core.Bool.{beq}
 use Rattle.arimaa_board.specs.declared.piece.Color.{Color}
 use Rattle.arimaa_board.specs.Board.{same_color}
@@ -32,7 +32,7 @@ module _ (a : Color) (barred : List Position) (n : ℕ) (p : Position) (room liv
 
   -- the question on the first of the rest stopped
   pub stopped-answer : (r : Result Bool Stop) (stopped : Stop) (space held : ℕ) (q : Position) (rest : List Position) (began left after : ℕ) → Midst a barred n p (q ∷ rest) began left → decided p ≡ None
-      → r ≡ Err stopped → space ≡ room → held ≡ live + length (next barred p) → Answered a barred n q space held left after r → Answered a barred (suc n) p room live (began + 1) after r
+      → r ≡ Err stopped → space ≡ room → held ≤ live + length (next barred p) → Answered a barred n q space held left after r → Answered a barred (suc n) p room live (began + 1) after r
   stopped-answer (Ok v) stopped space held q rest began left after m undecided is all full answer = absurd (cc)
   stopped-answer (Err stop.Spent) stopped space held q rest began left after m undecided is all full answer =
       let dear = answer.0 in

@@ -1,5 +1,4 @@
 pub mod Workers
 pub mod Asking
 pub mod Questions
-pub mod Replies
 pub mod Traces

@@ -4,24 +4,8 @@ ghost use Rattle.arimaa_model.specs.Results.{next};
 
 use arimaa_board::Position;
 use arimaa_history::Barred;
-use arimaa_results::{Wanted, first_turn_where};
+use arimaa_results::{Unbarred, first_turn_where};
 use arimaa_step::apply;
-
-// Any position is wanted that isn't barred.
-#[derive(Clone, Copy)]
-struct Unbarred<'a> {
-    barred: &'a Barred,
-}
-
-impl Wanted for Unbarred<'_> {
-    ghost use Rattle.arimaa_search.specs.Replies.{is_unbarred};
-
-    ghost passes = { λ wanted reached. is_unbarred wanted.barred.now reached };
-
-    fn passes(&self, reached: &Position) -> bool {
-        !self.barred.contains(reached)
-    }
-}
 
 /// The first of the next positions, if there is one. No memory is taken.
 pub(crate) fn first_reply(p: &Position, barred: &Barred) -> Option<Position>

@@ -1,9 +1,10 @@
 //! A question is asked: its line answers it, or it is opened.
-ghost use Rattle.std.specs.Prelude.{◌≡◌, ℕ, ◌+◌, ◌-◌, ◌<◌, ◌≤◌, ◌∷◌, suc, length, OnOk, IfOk, None};
+ghost use Rattle.std.specs.Prelude.{◌≡◌, ℕ, ◌+◌, ◌-◌, ◌<◌, ◌≤◌, suc, length, OnOk, IfOk, None};
+ghost use Rattle.std.specs.List.{list_any};
 ghost use Rattle.arimaa_model.specs.Decided.{decided};
-ghost use Rattle.arimaa_model.specs.Results.{next};
 ghost use Rattle.arimaa_forced.specs.Search.{cost};
-ghost use Rattle.arimaa_region.specs.Segments.{live_of, below_top};
+ghost use Rattle.arimaa_region.specs.Segments.{live_of, below_top, top};
+ghost use Rattle.arimaa_results.specs.Listed.{IsListed, is_won_by};
 ghost use Rattle.arimaa_line.specs.Index.{place_of};
 ghost use Rattle.arimaa_table.specs.Passes.{lines_of, setting_of, steps_of, place_view, IsPassOf, KeepsNoOlder, NoFewer};
 ghost use Rattle.arimaa_search.specs.Asking.{Answered};
@@ -16,7 +17,7 @@ use crate::stop::Stop;
 use arimaa_board::Position;
 use arimaa_model::decided;
 use arimaa_region::Region;
-use arimaa_results::results;
+use arimaa_results::results_to_win;
 use arimaa_table::{Table, TablePass};
 
 /// Asks whether the attacker wins a position within `depth` turns, where `left` questions may still
@@ -87,7 +88,8 @@ fn open_up(
 }
 
 // Asks about the next positions of an undecided position in order, up to the first that is decisive.
-// Most looks end at the first of all, so the list of them is made only where this one goes on.
+// Most looks end at the first of all, so the list of them is made only where this one goes on, and
+// only up to a position that the side to move has won.
 #[cycle(search)]
 fn look_through(
     table: &Table,
@@ -120,7 +122,7 @@ fn look_through(
         return Ok(own);
     }
     let first = region.live();
-    match results(p, barred, region) {
+    match results_to_win(p, barred, region) {
         Err(_) => Err(Stop::Crowded),
         Ok(mark) => {
             let answer = look_on(table, pass, region, left, p, first, depth);
@@ -131,8 +133,8 @@ fn look_through(
 }
 
 // Asks about the positions of the top segment after the first, in order, up to the first that is
-// decisive. They are the next ones of an undecided position, and the first of them was asked about
-// and is not decisive.
+// decisive. They are the next ones of an undecided position, maybe up to one that the side to move
+// has won, which is decisive. The first of them was asked about and is not decisive.
 #[cycle(search)]
 fn look_on(
     table: &Table,
@@ -147,9 +149,10 @@ fn look_on(
     requires segments { length region.old.segments + depth < 64 }
     requires depth { depth < 20 }
     requires undecided { decided p.now ≡ None }
-    requires places { region.old.segments ≡ next (setting_of table.now).barred p.now ∷ below_top region.old.segments }
+    requires open { 0 < length region.old.segments }
+    requires listed { IsListed (list_any (is_won_by p.now.side) (top region.old.segments)) (setting_of table.now).barred p.now (top region.old.segments) }
     requires first { first ≡ length (live_of (below_top region.old.segments)) }
-    requires some { 1 ≤ length (next (setting_of table.now).barred p.now) }
+    requires some { 1 ≤ length (top region.old.segments) }
     ensures pass { IsPassOf table.now pass.new }
     ensures later { KeepsNoOlder pass.old pass.new }
     ensures grown { NoFewer (steps_of pass.old) (steps_of pass.new) }

@@ -31,4 +31,5 @@ returns c =
       room = stage-room p room 0 c.work_layer.new.self.work c.extend.new.region.work opened first c.extend.ensures.kept;
       kept = on_ok r (stage-kept p room 0 c.work_layer.new.self.work c.extend.new.region.work opened first c.extend.ensures.kept);
       work = stage-work p room 0 c.work_layer.new.self.work c.extend.new.region.work opened first c.extend.ensures.kept;
+      unwon = c.extend.ensures.unwon;
     }

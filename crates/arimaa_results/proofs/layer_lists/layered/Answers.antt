@@ -1,12 +1,13 @@
 use Rattle.std.proofs.Common.{◌≡◌, ◌+◌, ◌<◌, List, [], ◌∷◌, length, sym, ◌∙◌, ap, subst}
 use Rattle.std.specs.Prelude.{is_ok, OnOk}
 use Rattle.std.specs.List.{flat_map}
+use Rattle.std.proofs.lemmas.Bool.{false≢true, false_from_ne_true}
 use Rattle.arimaa_board.specs.declared.position.Position.{Position}
 use Rattle.arimaa_model.specs.Results.{next}
 use Rattle.arimaa_region.specs.Segments.{Held, live_of}
 use Rattle.arimaa_results.specs.Adding.{IsFilled}
 use Rattle.arimaa_results.specs.Layering.{layers_to, brought_from}
-use Rattle.arimaa_results.specs.Stopped.{is_room, is_work}
+use Rattle.arimaa_results.specs.Stopped.{for_won, is_room, is_work, is_won}
 use Rattle.arimaa_results.proofs.Distinct.{layers-distinct}
 use Rattle.arimaa_results.proofs.Layers.{layered-firsts}
 use Rattle.arimaa_results.proofs.Opened.{opened_whole, opened_many}
@@ -49,4 +50,7 @@ returns-in-Err-clause-work c =
     let p = c.args.p.now in
     let same : c.mark-mark.new.self.work.room ≡ c.args.region.now.work.room = ap (λ (h : Held). h.work.room) c.mark-mark.ensures.opened in
     rw (c.full_by.ensures, ← same)
-    (if_work c.in-Err.stop c.live-live.result (λ e. subst (λ ls. c.mark-mark.new.self.work.room < length (live_of ls)) (layers-distinct p c.at-corner.ensures.size) (c.fill_layers.ensures.work (ap is_work c.in-Err.is ∙ e))))
+    (if_work c.in-Err.stop c.live-live.result (false_from_ne_true (for_won c.in-Err.stop) (λ e. false≢true (c.fill_layers.ensures.won (ap is_won c.in-Err.is ∙ e)))) (λ e. subst (λ ls. c.mark-mark.new.self.work.room < length (live_of ls)) (layers-distinct p c.at-corner.ensures.size) (c.fill_layers.ensures.work (ap is_work c.in-Err.is ∙ e))))
+
+pub full_by-requires : goal.full_by-requires
+full_by-requires c = false_from_ne_true (for_won c.in-Err.stop) (λ e. false≢true (c.fill_layers.ensures.won (ap is_won c.in-Err.is ∙ e)))

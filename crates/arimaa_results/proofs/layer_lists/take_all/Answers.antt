@@ -10,7 +10,7 @@ use Rattle.arimaa_results.specs.Ahead.{brings}
 use Rattle.arimaa_results.specs.Layering.{keeps, IsKept}
 use Rattle.arimaa_results.specs.Adding.{IsFilled}
 use Rattle.arimaa_results.specs.NextStates.{next_gives}
-use Rattle.arimaa_results.specs.Stopped.{is_room, is_work}
+use Rattle.arimaa_results.specs.Stopped.{for_won, is_room, is_work, is_won}
 use Rattle.arimaa_results.proofs.Adding.{leads_start, leads_ok, leads_err, leads_end}
 use Rattle.arimaa_results.proofs.layer_lists.take_all.Goals as goal
 
@@ -55,3 +55,9 @@ pub returns-clause-kept : goal.returns-clause-kept
 returns-clause-kept c =
     let K : Step × TurnState → List (List ℕ) = next_gives keeps in
     leads_end same_words (ap (flat_map K) c.in_default.ensures.end) c.loop-next.invariant.kept
+
+pub returns-in_err-take-clause-unwon : goal.returns-in_err-take-clause-unwon
+returns-in_err-take-clause-unwon c =
+    let raised = err_from_is_err_and c.from_residual.result c.from_residual.ensures.1 in
+    let same : is_won c.take.result ≡ is_won c.from_residual.result = ap is_won c.in_err-take.was ∙ sym (ap is_won raised.1 ∙ ap for_won raised.2) in
+    sym same ∙ c.take.ensures.unwon

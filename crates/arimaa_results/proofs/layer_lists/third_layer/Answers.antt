@@ -1,4 +1,4 @@
-use Rattle.std.proofs.Common.{◌≡◌, ◌+◌, ◌<◌, ◌≤◌, ℕ, List, [], ◌∷◌, length, drop, get_or, ap, refl, sym, subst, ◌∙◌, arith, Result, Ok}
+use Rattle.std.proofs.Common.{◌≡◌, ◌+◌, ◌<◌, ◌≤◌, ℕ, List, [], ◌∷◌, length, drop, get_or, ap, refl, sym, subst, ◌∙◌, arith, Result, Ok, true≢false}
 use Rattle.std.specs.Prelude.{is_ok, IfOk}
 use Rattle.std.proofs.lemmas.Result.{err_from_is_err_and}
 use Rattle.arimaa_board.specs.declared.position.Position.{Position}
@@ -13,8 +13,8 @@ use Rattle.arimaa_results.specs.Ahead.{brings}
 use Rattle.arimaa_results.specs.LastSteps.{thirds_in_order, brings_first, brings_last, left_of_kept}
 use Rattle.arimaa_results.specs.Layering.{keeps, layer, layers_to, brought_from, IsKept}
 use Rattle.arimaa_results.specs.NextStates.{next_pairs}
-use Rattle.arimaa_results.specs.Stopped.{for_work, is_room, is_work}
-use Rattle.arimaa_results.proofs.Adding.{Leads, leads_start, leads_ok, leads_err, leads_end, added-like}
+use Rattle.arimaa_results.specs.Stopped.{for_work, for_won, is_room, is_work, is_won}
+use Rattle.arimaa_results.proofs.Adding.{Leads, leads_start, leads_ok, leads_err, leads_end, leads_off, under_live, added-like}
 use Rattle.arimaa_results.proofs.Kept.{kept_first, last_split, last_end, first_live, reading_first}
 use Rattle.arimaa_results.proofs.Layers.{IsRead, live-more, layers-count}
 use Rattle.arimaa_results.proofs.OrderedLayers.{third_in_order, thirds_kept}
@@ -196,3 +196,74 @@ returns-clause-kept c =
     let past : length (layer p 1) ≤ c.loop-place.place = omega (arith, c.requires.second, live-more p 0) in
     let all = leads_end same_words (last_end words p _ (layer p 1) c.loop-place.place past) c.loop-place.invariant.kept in
     stage-kept p c.args.region.now.work.room 2 (with_layer c.args.region.now.work.room p 2) c.loop-place.region.work refl (thirds_kept p c.at-corner.ensures.size) all refl
+
+pub ends_list-requires : goal.ends_list-requires
+ends_list-requires c = under_live c.third_steps_from.new.region.segments c.loop-place.region.segments c.live-from.result c.third_steps_from.ensures.filled.below_kept c.live-from.ensures.count
+
+pub returns-then-ends_list-clause-filled : goal.returns-then-ends_list-clause-filled
+returns-then-ends_list-clause-filled c =
+    let p = c.args.p.now in
+    let w = c.work_get.result in
+    let L = layer p 1 in
+    let i = c.loop-place.place in
+    let some : 0 < length c.loop-place.region.work.segments = omega (arith, c.loop-place.invariant.kept.open_kept) in
+    let read : IsRead p 0 i w = reading_first p c.loop-place.region.work.segments some c.loop-place.invariant.kept.below_same c.at-corner.ensures.size i c.args.second c.requires.second c.loop-place-test.true w c.work_get.ensures in
+    let live = live_of (layers_to p 2) in
+    let kept = drop c.loop-place.next live in
+    let st : TurnState = c.from_planes-state.result in
+    let r = c.third_steps_from.result in
+    let placed : TurnState → Step → List Position = thirds_in_order (brings c.args.barred.now 0) in
+    let words : TurnState → Step → List (List ℕ) = thirds_in_order keeps in
+    let state : st ≡ state_in_planes p (get_or L i w) = c.from_planes-state.ensures read.of.0 read.few read.of.2 ∙ (sym read.state ∙ ap (state_in_planes p) (sym read.at)) in
+    let under : live_of (below_top c.loop-place.region.work.segments) ≡ live = ap live_of c.loop-place.invariant.kept.below_same in
+    let X : List Position = brings_first placed st kept (next_pairs st) in
+    let W : List (List ℕ) = brings_first words st kept (next_pairs st) in
+    let filled : IsFilled c.loop-place.region c.third_steps_from.new.region (is_ok r) (is_room r) X =
+    subst (λ l. IsFilled c.loop-place.region c.third_steps_from.new.region (is_ok r) (is_room r) (brings_first placed st (drop c.loop-place.next l) (next_pairs st))) under c.third_steps_from.ensures.filled in
+    let added : IsKept c.loop-place.region.work c.third_steps_from.new.region.work (is_ok r) (is_work r) W =
+    subst (λ l. IsKept c.loop-place.region.work c.third_steps_from.new.region.work (is_ok r) (is_work r) (brings_first words st (drop c.loop-place.next l) (next_pairs st))) under c.third_steps_from.ensures.kept in
+    let n = c.in_ok-next.next in
+    let answer : Result ℕ Stop = Ok n in
+    let given : IfOk answer (λ m. drop m live ≡ left_of_kept kept (next_pairs st)) =
+    subst (λ (o : Result ℕ Stop). IfOk o (λ m. drop m live ≡ left_of_kept kept (next_pairs st))) c.in_ok-next.was
+    (subst (λ l. IfOk r (λ m. drop m l ≡ left_of_kept (drop c.loop-place.next l) (next_pairs st))) under c.third_steps_from.ensures.next) in
+    let ok = ap is_ok c.in_ok-next.was in
+    added-like same_position (brings_last placed p (layer p 2) L) (brought_from c.args.barred.now p 2) (third_in_order c.args.barred.now p c.at-corner.ensures.size (top c.args.region.now.segments))
+    (leads_off same_position (leads_ok same_position X (brings_last placed p (drop n live) (drop (i + 1) L)) (last_split placed p kept (drop n live) L i w st read.inside state given) c.loop-place.invariant.filled ok filled))
+
+pub returns-then-ends_list-clause-room : goal.returns-then-ends_list-clause-room
+returns-then-ends_list-clause-room c =
+    let p = c.args.p.now in
+    let w = c.work_get.result in
+    let L = layer p 1 in
+    let i = c.loop-place.place in
+    let some : 0 < length c.loop-place.region.work.segments = omega (arith, c.loop-place.invariant.kept.open_kept) in
+    let read : IsRead p 0 i w = reading_first p c.loop-place.region.work.segments some c.loop-place.invariant.kept.below_same c.at-corner.ensures.size i c.args.second c.requires.second c.loop-place-test.true w c.work_get.ensures in
+    let live = live_of (layers_to p 2) in
+    let kept = drop c.loop-place.next live in
+    let st : TurnState = c.from_planes-state.result in
+    let r = c.third_steps_from.result in
+    let placed : TurnState → Step → List Position = thirds_in_order (brings c.args.barred.now 0) in
+    let words : TurnState → Step → List (List ℕ) = thirds_in_order keeps in
+    let state : st ≡ state_in_planes p (get_or L i w) = c.from_planes-state.ensures read.of.0 read.few read.of.2 ∙ (sym read.state ∙ ap (state_in_planes p) (sym read.at)) in
+    let under : live_of (below_top c.loop-place.region.work.segments) ≡ live = ap live_of c.loop-place.invariant.kept.below_same in
+    let X : List Position = brings_first placed st kept (next_pairs st) in
+    let W : List (List ℕ) = brings_first words st kept (next_pairs st) in
+    let filled : IsFilled c.loop-place.region c.third_steps_from.new.region (is_ok r) (is_room r) X =
+    subst (λ l. IsFilled c.loop-place.region c.third_steps_from.new.region (is_ok r) (is_room r) (brings_first placed st (drop c.loop-place.next l) (next_pairs st))) under c.third_steps_from.ensures.filled in
+    let added : IsKept c.loop-place.region.work c.third_steps_from.new.region.work (is_ok r) (is_work r) W =
+    subst (λ l. IsKept c.loop-place.region.work c.third_steps_from.new.region.work (is_ok r) (is_work r) (brings_first words st (drop c.loop-place.next l) (next_pairs st))) under c.third_steps_from.ensures.kept in
+    let n = c.in_ok-next.next in
+    let answer : Result ℕ Stop = Ok n in
+    let given : IfOk answer (λ m. drop m live ≡ left_of_kept kept (next_pairs st)) =
+    subst (λ (o : Result ℕ Stop). IfOk o (λ m. drop m live ≡ left_of_kept kept (next_pairs st))) c.in_ok-next.was
+    (subst (λ l. IfOk r (λ m. drop m l ≡ left_of_kept (drop c.loop-place.next l) (next_pairs st))) under c.third_steps_from.ensures.next) in
+    let ok = ap is_ok c.in_ok-next.was in
+    let all = leads_off same_words (leads_ok same_words W (brings_last words p (drop n live) (drop (i + 1) L)) (last_split words p kept (drop n live) L i w st read.inside state given) c.loop-place.invariant.kept ok added) in
+    all.room_kept
+
+pub returns-in_err-next-clause-won : goal.returns-in_err-next-clause-won
+returns-in_err-next-clause-won c =
+    let raised = err_from_is_err_and c.from_residual.result c.from_residual.ensures.1 in
+    let same : is_won c.third_steps_from.result ≡ is_won c.from_residual.result = ap is_won c.in_err-next.was ∙ sym (ap is_won raised.1 ∙ ap for_won raised.2) in
+    λ e. absurd (true≢false (sym e ∙ (sym same ∙ c.third_steps_from.ensures.unwon)))

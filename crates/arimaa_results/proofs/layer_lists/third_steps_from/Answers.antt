@@ -13,7 +13,7 @@ use Rattle.arimaa_results.specs.Ahead.{brings}
 use Rattle.arimaa_results.specs.Layering.{keeps, IsKept}
 use Rattle.arimaa_results.specs.LastSteps.{is_next, thirds_in_order, brings_first, left_of_kept}
 use Rattle.arimaa_results.specs.NextStates.{next_pairs, pairs_left}
-use Rattle.arimaa_results.specs.Stopped.{is_room, is_work}
+use Rattle.arimaa_results.specs.Stopped.{for_won, is_room, is_work, is_won}
 use Rattle.arimaa_results.proofs.Adding.{Leads, leads_start, leads_ok, leads_err, leads_end}
 use Rattle.arimaa_results.proofs.Kept.{below_live, next_brings, next_left, other_brings, other_left, none_brings, none_left}
 use Rattle.arimaa_results.proofs.Stage.{raised-room, raised-work}
@@ -144,3 +144,9 @@ pub returns-clause-next : goal.returns-clause-next
 returns-clause-next c =
     let kept = live_of (below_top c.args.region.now.work.segments) in
     sym (none_left (drop c.loop-step.next kept) (pairs_left c.args.state.now c.loop-step.steps) c.in_default.ensures.none) ∙ c.loop-step.invariant.left
+
+pub returns-in_err-take_all-clause-unwon : goal.returns-in_err-take_all-clause-unwon
+returns-in_err-take_all-clause-unwon c =
+    let raised = err_from_is_err_and c.from_residual.result c.from_residual.ensures.1 in
+    let same : is_won c.take_all.result ≡ is_won c.from_residual.result = ap is_won c.in_err-take_all.was ∙ sym (ap is_won raised.1 ∙ ap for_won raised.2) in
+    sym same ∙ c.take_all.ensures.unwon

@@ -1,7 +1,7 @@
-use Rattle.std.proofs.Common.{rules, ◌≡◌, ℕ, suc, ◌+◌, ◌≤◌, Bool, true, false, cond, not, Option, Some, Err, List, [], ◌∷◌, drop, length, refl, sym, ap, subst, ◌∙◌, arith}
+use Rattle.std.proofs.Common.{rules, ◌≡◌, ℕ, suc, ◌+◌, ◌≤◌, ◌||◌, ◌++◌, Bool, true, false, cond, not, Option, Some, Err, List, [], ◌∷◌, drop, length, refl, sym, ap, subst, ◌∙◌, arith}
 use mathlib.Core.Bool.{beq}
 use Rattle.std.specs.Prelude.{IfNone}
-use Rattle.std.specs.List.{slice_get}
+use Rattle.std.specs.List.{slice_get, list_any}
 use Rattle.std.proofs.lemmas.Result.{err_from_is_err_and}
 use Rattle.arimaa_board.specs.declared.piece.Color.{Color}
 use Rattle.arimaa_board.specs.Board.{same_color}
@@ -9,14 +9,15 @@ use Rattle.arimaa_board.specs.declared.position.Position.{Position}
 use Rattle.arimaa_model.specs.Results.{next}
 use Rattle.arimaa_model.specs.Wins.{wins}
 use Rattle.arimaa_model.proofs.WinsLaws.{wins-decided}
-use Rattle.arimaa_region.specs.Segments.{live_of}
+use Rattle.arimaa_region.specs.Segments.{live_of, top}
 use Rattle.arimaa_table.specs.Passes.{setting_of, lines_of, steps_of}
 use Rattle.arimaa_forced.specs.Search.{is_decisive, cost}
 use Rattle.arimaa_forced.proofs.Deeper.{cost-some, crowd-deeper}
 use Rattle.arimaa_forced.proofs.Midst.{Midst, midst-start, midst-more, midst-paid}
 use Rattle.arimaa_search.specs.Asking.{Answered}
-use Rattle.arimaa_search.proofs.Lists.{after_first, live-length, first_left, none_left}
+use Rattle.arimaa_search.proofs.Lists.{after_first, live-length, first_left, none_left, two_parts, part_length}
 use Rattle.arimaa_search.proofs.Looking.{decisive-answer, end-answer, stopped-answer, early-answer, midst-past, decisive-by}
+use Rattle.arimaa_search.proofs.WonPositions.{none_won, after_part}
 use Rattle.arimaa_search.proofs.Tracing.{Tracing, tracing_start, tracing_more, tracing_past, tracing_decisive, tracing_end}
 use Rattle.arimaa_search.proofs.search.+search.Goals as goal
 
@@ -43,7 +44,11 @@ pub look_on-loop-place-init : goal.look_on-loop-place-init
 look_on-loop-place-init t c =
     let a = (setting_of c.args.table.now).attacker in let barred = (setting_of c.args.table.now).barred in
     let xs = live_of c.args.region.now.segments in
-    let after : drop (c.args.first + 1) xs ≡ drop 1 (next barred c.args.p.now) = after_first c.args.region.now.segments (next barred c.args.p.now) c.args.first c.requires.places c.requires.first in
+    let part = top c.args.region.now.segments in
+    let rest = drop (length part) (next barred c.args.p.now) in
+    let joined : next barred c.args.p.now ≡ part ++ rest = c.requires.listed.begun in
+    let later : drop (c.args.first + 1) xs ≡ drop 1 part = after_first c.args.region.now.segments part c.args.first (two_parts c.args.region.now.segments c.requires.open) c.requires.first in
+    let after : drop (c.args.first + 1) xs ++ rest ≡ drop 1 (next barred c.args.p.now) = ap (λ l. l ++ rest) later ∙ after_part part rest (next barred c.args.p.now) joined c.requires.some in
     record {
       own_pass = c.requires.pass;
       later = λ i. (omega arith, λ _. refl);
@@ -51,7 +56,8 @@ look_on-loop-place-init t c =
       segments = refl;
       room = refl;
       spent = omega arith;
-      midst = λ reply past. subst (λ rest. Midst a barred c.args.depth c.args.p.now rest (c.args.left.now + cost a barred c.args.depth reply) c.args.left.now) (sym after) (midst-past a barred c.args.depth c.args.p.now reply c.args.left.now past);
+      midst = λ reply past. subst (λ l. Midst a barred c.args.depth c.args.p.now l (c.args.left.now + cost a barred c.args.depth reply) c.args.left.now) (sym after) (midst-past a barred c.args.depth c.args.p.now reply c.args.left.now past);
+      ends = λ reply past none. c.requires.listed.whole (none_won a barred c.args.depth c.args.p.now reply part rest past joined (sym (ap (list_any (is_decisive a barred c.args.depth c.args.p.now)) later) ∙ none));
       tracing = λ reply began past up stepped. subst (Tracing a barred c.args.depth c.args.p.now (lines_of c.args.table.now) began (steps_of c.args.pass.now)) (sym after) (tracing_past a barred c.args.depth c.args.p.now (lines_of c.args.table.now) reply began (steps_of c.args.pass.now) past up stepped);
     }
 
@@ -63,8 +69,11 @@ look_on-returns-in_err-won-clause-answer t c =
     let raised = err_from_is_err_and c.from_residual.result c.from_residual.ensures.1 in
     let same : c.ask.result ≡ c.from_residual.result = c.in_err-won.was ∙ (sym (ap Err raised.2) ∙ sym raised.1) in
     let there : slice_get xs c.loop-place.place ≡ Some c.get-q.result = ap (λ s. slice_get (live_of s) c.loop-place.place) (sym c.loop-place.invariant.segments) ∙ c.get-q.ensures in
-    let m = subst (λ rest. Midst a barred c.args.depth c.args.p.now rest (c.args.left.now + cost a barred c.args.depth reply) c.loop-place.left) (first_left xs c.loop-place.place c.get-q.result there) (c.loop-place.invariant.midst reply past) in
-    let held : length (live_of c.loop-place.region.segments) ≡ c.args.first + length (next barred c.args.p.now) = ap (λ s. length (live_of s)) c.loop-place.invariant.segments ∙ live-length c.args.region.now.segments (next barred c.args.p.now) c.args.first c.requires.places c.requires.first in
+    let m = subst (λ l. Midst a barred c.args.depth c.args.p.now (l ++ (drop (length (top c.args.region.now.segments)) (next barred c.args.p.now))) (c.args.left.now + cost a barred c.args.depth reply) c.loop-place.left) (first_left xs c.loop-place.place c.get-q.result there) (c.loop-place.invariant.midst reply past) in
+    let live : length (live_of c.loop-place.region.segments) ≡ c.args.first + length (top c.args.region.now.segments) =
+    ap (λ s. length (live_of s)) c.loop-place.invariant.segments ∙ live-length c.args.region.now.segments (top c.args.region.now.segments) c.args.first (two_parts c.args.region.now.segments c.requires.open) c.requires.first in
+    let held : length (live_of c.loop-place.region.segments) ≤ c.args.first + length (next barred c.args.p.now) =
+    part_length (top c.args.region.now.segments) (drop (length (top c.args.region.now.segments)) (next barred c.args.p.now)) (next barred c.args.p.now) _ c.args.first c.requires.listed.begun live in
     subst (λ r. Answered a barred (suc c.args.depth) c.args.p.now c.args.region.now.room c.args.first (c.args.left.now + cost a barred c.args.depth reply + 1) c.ask.new.left r) same
     (stopped-answer a barred c.args.depth c.args.p.now c.args.region.now.room c.args.first c.ask.result c.in_err-won.field-0.0 c.loop-place.region.room _ c.get-q.result _ (c.args.left.now + cost a barred c.args.depth reply) c.loop-place.left c.ask.new.left m c.requires.undecided c.in_err-won.was c.loop-place.invariant.room held c.ask.ensures.answer)
 
@@ -80,7 +89,7 @@ look_on-returns-then-won-own-clause-replies t c =
     let side : c.eq-own.result ≡ same_color c.args.p.now.side c.attacker.result = search rules in
     let ends = verdict-ends a barred c.args.depth c.args.p.now c.get-q.result c.eq-own.result c.in_ok-won.won true (side ∙ ap (same_color c.args.p.now.side) c.attacker.ensures) c.in_ok-won.ensures.answer.0 c.if-won-own.true in
     let there : slice_get xs c.loop-place.place ≡ Some c.get-q.result = ap (λ s. slice_get (live_of s) c.loop-place.place) (sym c.loop-place.invariant.segments) ∙ c.get-q.ensures in
-    let trace = subst (Tracing a barred c.args.depth c.args.p.now (lines_of c.args.table.now) began (steps_of c.loop-place.pass)) (first_left xs c.loop-place.place c.get-q.result there) (c.loop-place.invariant.tracing reply began past up here) in
+    let trace = subst (λ l. Tracing a barred c.args.depth c.args.p.now (lines_of c.args.table.now) began (steps_of c.loop-place.pass) (l ++ (drop (length (top c.args.region.now.segments)) (next barred c.args.p.now)))) (first_left xs c.loop-place.place c.get-q.result there) (c.loop-place.invariant.tracing reply began past up here) in
     tracing_decisive a barred c.args.depth c.args.p.now (lines_of c.args.table.now) c.get-q.result _ began (steps_of c.loop-place.pass) (steps_of c.ask.new.pass) trace c.ask.ensures.grown c.ask.ensures.here ends
 
 pub look_on-returns-then-won-own-clause-answer : goal.look_on-returns-then-won-own-clause-answer
@@ -92,7 +101,7 @@ look_on-returns-then-won-own-clause-answer t c =
     let mine = side ∙ ap (same_color c.args.p.now.side) c.attacker.ensures in
     let ends = verdict-ends a barred c.args.depth c.args.p.now c.get-q.result c.eq-own.result c.in_ok-won.won true mine c.in_ok-won.ensures.answer.0 c.if-won-own.true in
     let there : slice_get xs c.loop-place.place ≡ Some c.get-q.result = ap (λ s. slice_get (live_of s) c.loop-place.place) (sym c.loop-place.invariant.segments) ∙ c.get-q.ensures in
-    let m = subst (λ rest. Midst a barred c.args.depth c.args.p.now rest (c.args.left.now + cost a barred c.args.depth reply) c.loop-place.left) (first_left xs c.loop-place.place c.get-q.result there) (c.loop-place.invariant.midst reply past) in
+    let m = subst (λ l. Midst a barred c.args.depth c.args.p.now (l ++ (drop (length (top c.args.region.now.segments)) (next barred c.args.p.now))) (c.args.left.now + cost a barred c.args.depth reply) c.loop-place.left) (first_left xs c.loop-place.place c.get-q.result there) (c.loop-place.invariant.midst reply past) in
     let answer = decisive-answer a barred c.args.depth c.args.p.now c.args.region.now.room c.args.first c.get-q.result _ (c.args.left.now + cost a barred c.args.depth reply) c.loop-place.left c.ask.new.left m c.requires.undecided c.in_ok-won.ensures.answer.1 ends in
     (mine ∙ answer.0, answer.1)
 
@@ -113,10 +122,14 @@ look_on-loop-place-preserved t c =
       room = search rules;
       spent = (let before = c.loop-place.invariant.spent in let falls = paid.falls in omega arith);
       midst = λ reply past.
-          (let m = subst (λ rest. Midst a barred c.args.depth c.args.p.now rest (c.args.left.now + cost a barred c.args.depth reply) c.loop-place.left) here (c.loop-place.invariant.midst reply past) in
+          (let m = subst (λ l. Midst a barred c.args.depth c.args.p.now (l ++ (drop (length (top c.args.region.now.segments)) (next barred c.args.p.now))) (c.args.left.now + cost a barred c.args.depth reply) c.loop-place.left) here (c.loop-place.invariant.midst reply past) in
           midst-more a barred c.args.depth c.args.p.now c.get-q.result _ (c.args.left.now + cost a barred c.args.depth reply) c.loop-place.left c.ask.new.left m paid.falls paid.most goes);
+      ends = λ reply past none.
+          c.loop-place.invariant.ends reply past
+          (ap (list_any (is_decisive a barred c.args.depth c.args.p.now)) here
+          ∙ (ap (λ v. v || list_any (is_decisive a barred c.args.depth c.args.p.now) (drop (c.loop-place.place + 1) xs)) goes ∙ none));
       tracing = λ reply began past up stepped.
-          (let trace = subst (Tracing a barred c.args.depth c.args.p.now (lines_of c.args.table.now) began (steps_of c.loop-place.pass)) here (c.loop-place.invariant.tracing reply began past up stepped) in
+          (let trace = subst (λ l. Tracing a barred c.args.depth c.args.p.now (lines_of c.args.table.now) began (steps_of c.loop-place.pass) (l ++ (drop (length (top c.args.region.now.segments)) (next barred c.args.p.now)))) here (c.loop-place.invariant.tracing reply began past up stepped) in
           tracing_more a barred c.args.depth c.args.p.now (lines_of c.args.table.now) c.get-q.result _ began (steps_of c.loop-place.pass) (steps_of c.ask.new.pass) trace c.ask.ensures.grown c.ask.ensures.here goes);
     }
 
@@ -128,7 +141,9 @@ pub look_on-returns-clause-replies : goal.look_on-returns-clause-replies
 look_on-returns-clause-replies t c =
     let a = (setting_of c.args.table.now).attacker in let barred = (setting_of c.args.table.now).barred in
     λ reply began past up here.
-    let none = past_end c.args.region.now.segments c.args.region.now.segments c.loop-place.place c.live-end.result refl c.live-end.ensures.count c.loop-place-test.false in
+    let last = past_end c.args.region.now.segments c.args.region.now.segments c.loop-place.place c.live-end.result refl c.live-end.ensures.count c.loop-place-test.false in
+    let all : (drop (length (top c.args.region.now.segments)) (next barred c.args.p.now)) ≡ [] = c.loop-place.invariant.ends reply past (ap (list_any (is_decisive a barred c.args.depth c.args.p.now)) last) in
+    let none : drop c.loop-place.place (live_of c.args.region.now.segments) ++ (drop (length (top c.args.region.now.segments)) (next barred c.args.p.now)) ≡ [] = (λ i. last i ++ all i) in
     tracing_end a barred c.args.depth c.args.p.now (lines_of c.args.table.now) began (steps_of c.loop-place.pass)
     (subst (Tracing a barred c.args.depth c.args.p.now (lines_of c.args.table.now) began (steps_of c.loop-place.pass)) none (c.loop-place.invariant.tracing reply began past up here))
 
@@ -138,7 +153,9 @@ look_on-returns-clause-answer t c =
     λ reply past.
     let side : c.eq-own.result ≡ same_color c.args.p.now.side c.attacker.result = search rules in
     let mine = side ∙ ap (same_color c.args.p.now.side) c.attacker.ensures in
-    let none = past_end c.args.region.now.segments c.args.region.now.segments c.loop-place.place c.live-end.result refl c.live-end.ensures.count c.loop-place-test.false in
+    let last = past_end c.args.region.now.segments c.args.region.now.segments c.loop-place.place c.live-end.result refl c.live-end.ensures.count c.loop-place-test.false in
+    let all : (drop (length (top c.args.region.now.segments)) (next barred c.args.p.now)) ≡ [] = c.loop-place.invariant.ends reply past (ap (list_any (is_decisive a barred c.args.depth c.args.p.now)) last) in
+    let none : drop c.loop-place.place (live_of c.args.region.now.segments) ++ (drop (length (top c.args.region.now.segments)) (next barred c.args.p.now)) ≡ [] = (λ i. last i ++ all i) in
     let m = subst (λ rest. Midst a barred c.args.depth c.args.p.now rest (c.args.left.now + cost a barred c.args.depth reply) c.loop-place.left) none (c.loop-place.invariant.midst reply past) in
     let answer = end-answer a barred c.args.depth c.args.p.now c.args.region.now.room c.args.first (c.args.left.now + cost a barred c.args.depth reply) c.loop-place.left m c.requires.undecided in
     (ap not mine ∙ answer.0, answer.1)

@@ -1,8 +1,10 @@
-use Rattle.std.proofs.Common.{◌+◌, ◌*◌, ◌≡◌, ◌≤◌, ℕ, drop}
+use Rattle.std.proofs.Common.{◌+◌, ◌*◌, ◌≡◌, ◌≤◌, ℕ, ◌++◌, [], drop, length, false}
+use Rattle.std.specs.List.{list_any}
 use Rattle.arimaa_board.specs.declared.position.Position.{Position}
-use Rattle.arimaa_region.specs.Segments.{live_of}
+use Rattle.arimaa_model.specs.Results.{next}
+use Rattle.arimaa_region.specs.Segments.{live_of, top}
 use Rattle.arimaa_table.specs.Passes.{setting_of, lines_of, steps_of, IsPassOf, KeepsNoOlder, NoFewer}
-use Rattle.arimaa_forced.specs.Search.{cost}
+use Rattle.arimaa_forced.specs.Search.{cost, is_decisive}
 use Rattle.arimaa_forced.proofs.Midst.{Midst}
 use Rattle.arimaa_search.specs.Traces.{GoesPast, Stepped}
 use Rattle.arimaa_search.proofs.Tracing.{Tracing}
@@ -29,8 +31,11 @@ invariant-look_on-loop-place l = record {
   room : l.region.room ≡ l.initial.region.room;
   spent : l.left ≤ l.initial.left;
   midst : (reply : Position) → GoesPast (setting_of l.table).attacker (setting_of l.table).barred l.depth l.p reply
-      → Midst (setting_of l.table).attacker (setting_of l.table).barred l.depth l.p (drop l.place (live_of l.initial.region.segments)) (l.initial.left + cost (setting_of l.table).attacker (setting_of l.table).barred l.depth reply) l.left;
+      → Midst (setting_of l.table).attacker (setting_of l.table).barred l.depth l.p (drop l.place (live_of l.initial.region.segments) ++ drop (length (top l.initial.region.segments)) (next (setting_of l.table).barred l.p)) (l.initial.left + cost (setting_of l.table).attacker (setting_of l.table).barred l.depth reply) l.left;
+  ends : (reply : Position) → GoesPast (setting_of l.table).attacker (setting_of l.table).barred l.depth l.p reply
+      → list_any (is_decisive (setting_of l.table).attacker (setting_of l.table).barred l.depth l.p) (drop l.place (live_of l.initial.region.segments)) ≡ false
+      → drop (length (top l.initial.region.segments)) (next (setting_of l.table).barred l.p) ≡ [];
   tracing : (reply : Position) (began : ℕ → ℕ) → GoesPast (setting_of l.table).attacker (setting_of l.table).barred l.depth l.p reply
       → NoFewer began (steps_of l.initial.pass) → Stepped (lines_of l.table) began (steps_of l.initial.pass) reply
-      → Tracing (setting_of l.table).attacker (setting_of l.table).barred l.depth l.p (lines_of l.table) began (steps_of l.pass) (drop l.place (live_of l.initial.region.segments));
+      → Tracing (setting_of l.table).attacker (setting_of l.table).barred l.depth l.p (lines_of l.table) began (steps_of l.pass) (drop l.place (live_of l.initial.region.segments) ++ drop (length (top l.initial.region.segments)) (next (setting_of l.table).barred l.p));
 }
