@@ -1,192 +1,33 @@
--- Options, from their words.
-use Rattle.std.proofs.Common.{◌≡◌, ℕ, suc, ◌+◌, ◌<◌, ◌≤◌, ◌*◌, ◌^◌, List, [], ◌∷◌, length, drop, Option, None, Some, true, is_some, refl, sym, ◌∙◌, ap, subst, arith, true≢false}
-use Rattle.std.specs.Prelude.{slice_get, zero, IfNone}
-use Rattle.std.specs.Option.{unwrap_or}
-use Rattle.std.proofs.lemmas.Fmt.{decimal_injective}
+-- What the options of prove and refute set.
+use Rattle.std.proofs.Common.{◌≡◌, ℕ, List, Option, None, Some, sym, ◌∙◌, ap}
 use Rattle.arimaa_pool.specs.declared.settings.Settings.{Settings}
-use Rattle.arimaa_pool.specs.Limits.{AreWithinLimits}
-use Rattle.arimaa_cli.specs.declared.options.Given.{Given}
-use Rattle.arimaa_cli.specs.declared.options.Setting.{Setting}
-use Rattle.arimaa_cli.specs.declared.options.Setting.TheVariants.{Workers, Lines, Budget, Room}
-use Rattle.arimaa_cli.specs.Options.{AreOptions, AreOptionsOfOne, Give, IsOption, given_for, most_of, nothing_given, settings_of, with_number, word_of}
+use Rattle.arimaa_options.specs.declared.search_options.SearchOptions.{SearchOptions}
+use Rattle.arimaa_options.specs.Options as options
+use Rattle.arimaa_options.proofs.OptionForms as forms
+use Rattle.arimaa_cli.specs.Options.{AreOptions, AreOptionsOfOne}
 
--- ---- words
-
--- two words stand from a place on
-pub two_words : (ws : List (List ℕ)) (k : ℕ) (a b : List ℕ) → Some a ≡ slice_get ws k → Some b ≡ slice_get ws (k + 1) → drop k ws ≡ a ∷ b ∷ drop (k + 2) ws
-two_words [] k a b first second = cc
-two_words (x ∷ []) zero a b first second = cc
-two_words (x ∷ y ∷ ws) zero a b first second = cc
-two_words (x ∷ ws) (suc k) a b first second =
-    let e : suc k + 1 ≡ suc (k + 1) = omega arith in
-    let f : suc k + 2 ≡ suc (k + 2) = omega arith in
-    let next : Some b ≡ slice_get ws (k + 1) = second ∙ ap (slice_get (x ∷ ws)) e in
-    two_words ws k a b first next ∙ sym (ap (λ n. a ∷ b ∷ drop n (x ∷ ws)) f)
-
--- a last word stands at a place
-pub last_word : (ws : List (List ℕ)) (k : ℕ) (a : List ℕ) → Some a ≡ slice_get ws k → length ws ≤ k + 1 → drop k ws ≡ a ∷ []
-last_word [] k a first end = cc
-last_word (x ∷ []) zero a first end = cc
-last_word (x ∷ y ∷ ws) zero a first end = absurd (omega arith)
-last_word (x ∷ ws) (suc k) a first end = last_word ws k a first (omega arith)
-
--- a word that stands at a place is one of the words
-pub get_within : (ws : List (List ℕ)) (k : ℕ) (a : List ℕ) → Some a ≡ slice_get ws k → k < length ws
-get_within [] k a e = (let never : ⊥ = cc in absurd never)
-get_within (x ∷ ws) zero a e = omega arith
-get_within (x ∷ ws) (suc k) a e = let below = get_within ws k a e in omega arith
-
--- no word stands from the last place on
-pub nothing_left : (ws : List (List ℕ)) (k : ℕ) → length ws ≤ k → drop k ws ≡ []
-nothing_left [] zero h = refl
-nothing_left [] (suc k) h = refl
-nothing_left (x ∷ ws) zero h = absurd (omega arith)
-nothing_left (x ∷ ws) (suc k) h = nothing_left ws k (omega arith)
-
--- what says nothing more than that nothing is given
-pub if_none : {A : Type 0} (o : Option A) (X : Type 0) → X → IfNone o X
-if_none None X x = x
-if_none (Some a) X x = tt
-
--- ---- one reading
-
-one_name : (a b : Setting) → word_of a ≡ word_of b → a ≡ b
-one_name Workers Workers e = refl
-one_name Lines Lines e = refl
-one_name Budget Budget e = refl
-one_name Room Room e = refl
-one_name a b e = cc
-
-small : (o : Setting) (n : ℕ) → n ≤ most_of o → n < 2 ^ 64
-small Workers n h = omega arith
-small Lines n h = omega arith
-small Budget n h = omega arith
-small Room n h = omega arith
-
-one_given : (ws : List (List ℕ)) (g h k : Given) → Give g ws h → Give g ws k → h ≡ k
-unfolding Give
-one_given [] g h k p q = sym p ∙ q
-one_given (x ∷ []) g h k p q = absurd p
-one_given (x ∷ y ∷ ws) g h k p q =
-    let name : q.0 ≡ p.0 = one_name q.0 p.0 (sym q.2.named ∙ p.2.named) in
-    let number : q.1 ≡ p.1 = decimal_injective q.1 p.1 (small q.0 q.1 q.2.most) (small p.0 p.1 p.2.most) (sym q.2.written ∙ p.2.written) in
-    one_given ws (with_number p.0 p.1 g) h k p.3 (subst (λ (v : Given). Give v ws k) (λ i. with_number (name i) (number i) g) q.3)
-
+-- words are options that set one thing
 pub one_options : (ws : List (List ℕ)) (s t : Settings) → AreOptions ws s → AreOptions ws t → s ≡ t
-one_options ws s t p q = p.set ∙ ap settings_of (one_given ws nothing_given p.given q.given p.in_form q.in_form) ∙ sym q.set
+one_options ws s t p q = ap (λ (o : SearchOptions). o.settings) (forms.one_options ws _ _ p.given q.given)
 
 pub one_options_of_one : (ws : List (List ℕ)) (s t : Settings) → AreOptionsOfOne ws s → AreOptionsOfOne ws t → s ≡ t
 one_options_of_one ws s t p q =
-    p.set ∙ ap (λ (g : Given). settings_of (with_number Workers 1 g)) (one_given ws nothing_given p.given q.given p.in_form q.in_form) ∙ sym q.set
+    let usual = ap (λ (o : SearchOptions). o.settings) (forms.one_options ws _ _ p.given q.given) in
+    p.set ∙ ap (λ (u : Settings). record u { workers = 1 }) usual ∙ sym q.set
 
--- ---- a reading that goes on
+-- options with a depth set nothing
+pub no_settings : (ws : List (List ℕ)) (o : SearchOptions) (d : ℕ) → options.AreOptions ws o → o.depth ≡ Some d → (s : Settings) → AreOptions ws s → ⊥
+no_settings ws o d are some s p =
+    let same : None ≡ Some d = ap (λ (x : SearchOptions). x.depth) (forms.one_options ws _ o p.given are) ∙ some in
+    let never : ⊥ = cc in
+    never
 
-pub none_more : (g : Given) (ws : List (List ℕ)) → ws ≡ [] → Give g ws g
-unfolding Give
-none_more g ws e = rw e refl
+-- options with a depth or a number of workers set nothing for one worker
+pub of_one : (ws : List (List ℕ)) (o : SearchOptions) → options.AreOptions ws o → (s : Settings) → AreOptionsOfOne ws s → (o.depth ≡ None) × (o.workers ≡ None)
+of_one ws o are s p =
+    let same = forms.one_options ws o _ are p.given in
+    (ap (λ (x : SearchOptions). x.depth) same, ap (λ (x : SearchOptions). x.workers) same)
 
-pub no_half : (g h : Given) (ws : List (List ℕ)) (a : List ℕ) → ws ≡ a ∷ [] → Give g ws h → ⊥
-unfolding Give
-no_half g h ws a e give = rw e at give
-
-pub next_option : (g h : Given) (ws rest : List (List ℕ)) (a b : List ℕ) → ws ≡ a ∷ b ∷ rest → Give g ws h
-    → (o : Setting) × (n : ℕ) × IsOption g a b o n × Give (with_number o n g) rest h
-unfolding Give
-next_option g h ws rest a b e give = rw e at give
-
-pub one_more : (g v h : Given) (ws rest : List (List ℕ)) (a b : List ℕ) (o : Setting) (n : ℕ) → ws ≡ a ∷ b ∷ rest → IsOption g a b o n → v ≡ with_number o n g
-    → Give v rest h → Give g ws h
-unfolding Give
-one_more g v h ws rest a b o n e is same give = rw e (o, n, is, subst (λ (u : Given). Give u rest h) same give)
-
-pub same_more : (g v h : Given) (ws rest : List (List ℕ)) (a b : List ℕ) (o : Setting) (n : ℕ) → ws ≡ a ∷ b ∷ rest → IsOption g a b o n → v ≡ with_number o n g
-    → Give g ws h → Give v rest h
-same_more g v h ws rest a b o n e is same give =
-    let more = next_option g h ws rest a b e give in
-    let name : more.0 ≡ o = one_name more.0 o (sym more.2.named ∙ is.named) in
-    let number : more.1 ≡ n = decimal_injective more.1 n (small more.0 more.1 more.2.most) (small o n is.most) (sym more.2.written ∙ is.written) in
-    subst (λ (u : Given). Give u rest h) ((λ i. with_number (name i) (number i) g) ∙ sym same) more.3
-
--- ---- limits
-
--- each number that is given is in its range
-AreInRange : Given → Type 0
-AreInRange g = (o : Setting) (n : ℕ) → given_for o g ≡ Some n → (1 ≤ n) × (n ≤ most_of o)
-
-grown : (g : Given) (o : Setting) (n : ℕ) → AreInRange g → 1 ≤ n → n ≤ most_of o → AreInRange (with_number o n g)
-unfolding AreInRange
-grown g Workers n h s l Workers m e = let same : n ≡ m = cc in (omega arith, omega arith)
-grown g Lines n h s l Lines m e = let same : n ≡ m = cc in (omega arith, omega arith)
-grown g Budget n h s l Budget m e = let same : n ≡ m = cc in (omega arith, omega arith)
-grown g Room n h s l Room m e = let same : n ≡ m = cc in (omega arith, omega arith)
-grown g Workers n h s l o m e = h o m e
-grown g Lines n h s l o m e = h o m e
-grown g Budget n h s l o m e = h o m e
-grown g Room n h s l o m e = h o m e
-
-given_ranges : (ws : List (List ℕ)) (g h : Given) → AreInRange g → Give g ws h → AreInRange h
-unfolding Give
-given_ranges [] g h r e = subst AreInRange e r
-given_ranges (x ∷ []) g h r give = absurd give
-given_ranges (x ∷ y ∷ ws) g h r give = given_ranges ws (with_number give.0 give.1 g) h (grown g give.0 give.1 r give.2.some give.2.most) give.3
-
-nothing_ranges : AreInRange nothing_given
-unfolding AreInRange
-nothing_ranges Workers n e = cc
-nothing_ranges Lines n e = cc
-nothing_ranges Budget n e = cc
-nothing_ranges Room n e = cc
-
-filled : (o : Option ℕ) (d most : ℕ) → 1 ≤ d → d ≤ most → ((n : ℕ) → o ≡ Some n → (1 ≤ n) × (n ≤ most)) → (1 ≤ unwrap_or o d) × (unwrap_or o d ≤ most)
-filled None d most low high h = (low, high)
-filled (Some n) d most low high h = h n refl
-
--- what options set is within the limits, but for the room of all workers
-pub limits : (ws : List (List ℕ)) (g : Given) (s : Settings) → Give nothing_given ws g → s ≡ settings_of g → s.workers * s.room ≤ 4194304 → AreWithinLimits s
-unfolding AreInRange
-limits ws g s give set room =
-    let ranges : AreInRange g = given_ranges ws nothing_given g nothing_ranges give in
-    let workers = filled g.workers 4 16 (omega arith) (omega arith) (ranges Workers) in
-    let lines = filled g.lines 65536 262144 (omega arith) (omega arith) (ranges Lines) in
-    let budget = filled g.budget 10000000 (2 ^ 40) (omega arith) (omega arith) (ranges Budget) in
-    let places = filled g.room 262144 1048576 (omega arith) (omega arith) (ranges Room) in
-    let all : (settings_of g).workers * (settings_of g).room ≤ 4194304 = subst (λ (t : Settings). t.workers * t.room ≤ 4194304) set room in
-    subst AreWithinLimits (sym set) (record {
-      some_workers = workers.0;
-      most_workers = workers.1;
-      some_lines = lines.0;
-      most_lines = lines.1;
-      some_budget = budget.0;
-      most_budget = budget.1;
-      some_room = places.0;
-      most_room = places.1;
-      room_of_all = all;
-    })
-
--- options for one worker don't give the number of workers
-pub alone_has : (ws : List (List ℕ)) (g : Given) (s : Settings) → Give nothing_given ws g → AreOptionsOfOne ws s → is_some g.workers ≡ true → ⊥
-alone_has ws g s give h e =
-    let same = one_given ws nothing_given h.given g h.in_form give in
-    let none : g.workers ≡ None = sym (ap (λ (v : Given). v.workers) same) ∙ h.alone in
-    true≢false (sym e ∙ ap is_some none)
-
--- what options set for one worker is within the limits
-pub limits_of_one : (ws : List (List ℕ)) (g : Given) (s : Settings) → Give nothing_given ws g → s ≡ settings_of (with_number Workers 1 g) → AreWithinLimits s
-unfolding AreInRange
-limits_of_one ws g s give set =
-    let ranges : AreInRange g = given_ranges ws nothing_given g nothing_ranges give in
-    let lines = filled g.lines 65536 262144 (omega arith) (omega arith) (ranges Lines) in
-    let budget = filled g.budget 10000000 (2 ^ 40) (omega arith) (omega arith) (ranges Budget) in
-    let places = filled g.room 262144 1048576 (omega arith) (omega arith) (ranges Room) in
-    let most = places.1 in
-    subst AreWithinLimits (sym set) (record {
-      some_workers = omega arith;
-      most_workers = omega arith;
-      some_lines = lines.0;
-      most_lines = lines.1;
-      some_budget = budget.0;
-      most_budget = budget.1;
-      some_room = places.0;
-      most_room = places.1;
-      room_of_all = omega arith;
-    })
+-- what isn't given has no number
+pub never_given : (o : Option ℕ) (n : ℕ) → o ≡ None → o ≡ Some n → ⊥
+never_given o n none some = cc

@@ -15,10 +15,10 @@ ghost use Rattle.arimaa_cli.specs.Commands.Check.{AreCheckingWords, EndWithRoom,
 use crate::commands::{
     Asked, Checking, Command, MOST_MADE, MOST_ROOM, MOST_TURNS, Making, Question,
 };
-use crate::options::{read_options, read_options_of_one};
+use crate::options::{read_settings, read_settings_of_one};
 use arimaa_board::Color;
+use arimaa_options::read_up_to;
 use arimaa_outside::CommandWords;
-use arimaa_record::read_number;
 use std::marker::Model;
 
 /// A word that stands for a text. It isn't empty, and begins with no dash.
@@ -72,16 +72,6 @@ fn read_side(word: &str) -> Option<Color>
     }
 }
 
-// The number up to a bound that a word gives in decimal digits.
-pub(crate) fn read_up_to(word: &str, most: u64) -> Option<u64>
-    ensures { (n : ℕ) → (result ≡ Some n) ↔ ((n ≤ most) × (word.now ≡ decimal n)) }
-{
-    match read_number(word.as_bytes()) {
-        None => None,
-        Some(number) => { if number <= most { Some(number) } else { None } }
-    }
-}
-
 // Whether a word may stand for a text.
 fn is_text(word: &[u8]) -> bool
     ensures { IsTrue result ↔ IsTextWord word.now }
@@ -115,7 +105,7 @@ fn read_prove(words: &CommandWords) -> Option<Asked>
     }
     let attacker = read_side(words.get(1)?)?;
     let depth = read_up_to(words.get(2)?, MOST_TURNS as u64)? as u8;
-    let settings = read_options(words, 3)?;
+    let settings = read_settings(words, 3)?;
     Some(Asked {
         attacker,
         depth,
@@ -149,7 +139,7 @@ fn read_refute(words: &CommandWords) -> Option<Asked>
     }
     let attacker = read_side(words.get(1)?)?;
     let depth = read_up_to(words.get(2)?, MOST_TURNS as u64)? as u8;
-    let settings = read_options_of_one(words, 3)?;
+    let settings = read_settings_of_one(words, 3)?;
     Some(Asked {
         attacker,
         depth,

@@ -1,4 +1,3 @@
-use Rattle.std.proofs.Common.{◌≡◌}
 use Rattle.arimaa_cli.proofs.Matches.{one_control}
 use Rattle.arimaa_cli.proofs.Readings.{on_reading, unplayed}
 use Rattle.arimaa_cli.proofs.play.run_play.Goals as goal

@@ -7,7 +7,7 @@ use Rattle.arimaa_cli.specs.declared.commands.prove.Asked.{Asked}
 use Rattle.arimaa_cli.specs.Commands.{AreWords}
 use Rattle.arimaa_cli.specs.Options.{AreOptionsOfOne}
 use Rattle.arimaa_cli.proofs.CommandForms.{prove_words, same_name}
-use Rattle.arimaa_cli.proofs.OptionForms.{if_none}
+use Rattle.arimaa_options.proofs.OptionForms.{if_none}
 use Rattle.arimaa_cli.proofs.words.read_refute.Goals as goal
 
 pub overflow_cast-depth : goal.overflow_cast-depth
@@ -30,4 +30,4 @@ returns-clause-form c =
 pub returns-in_err-settings-clause-none : goal.returns-in_err-settings-clause-none
 returns-in_err-settings-clause-none c = if_none c.from_residual-in_err-settings.result ((asked : Asked) → AreWords c.args.words.now (Refute asked) → ⊥) (λ asked are.
     let options : drop 3 c.args.words.now ≡ are.form.options = ap (drop 3) are.form.form in
-    c.in_err-settings.ensures.none asked.settings (subst (λ (o : List (List ℕ)). AreOptionsOfOne o asked.settings) (sym options) are.form.set))
+    c.in_err-settings.ensures.none asked.settings (subst (λ (o : List (List ℕ)). AreOptionsOfOne o asked.settings) (sym options) are.form.set) are.in_range.1)
