@@ -91,27 +91,17 @@ end_sooner old mid new (end.Engine side why) n cause = (
 end_sooner old mid new (end.Won winner why) n cause = tt
 end_sooner old mid new end.Limit n cause = tt
 
--- what stops a call of Gold's session has its cause
-pub gold_cause : {X : Type 0} (old new : Scene) (r : Result X EngineFault)
-    → HasCause old.gold.counts new.gold.counts r → IfOk (stopped Gold r) (IfFault old new)
-gold_cause old new (Ok x) cause = tt
-gold_cause old new (Err fault.Failed) cause = (cause, tt)
-gold_cause old new (Err fault.Ended) cause = (cause, tt)
-gold_cause old new (Err fault.Long) cause = (cause, tt)
-gold_cause old new (Err fault.Silent) cause = (cause, tt)
-gold_cause old new (Err (fault.Version text)) cause = (cause, tt)
-gold_cause old new (Err fault.Memory) cause = tt
-
--- the same of Silver's
-pub silver_cause : {X : Type 0} (old new : Scene) (r : Result X EngineFault)
-    → HasCause old.silver.counts new.silver.counts r → IfOk (stopped Silver r) (IfFault old new)
-silver_cause old new (Ok x) cause = tt
-silver_cause old new (Err fault.Failed) cause = (cause, tt)
-silver_cause old new (Err fault.Ended) cause = (cause, tt)
-silver_cause old new (Err fault.Long) cause = (cause, tt)
-silver_cause old new (Err fault.Silent) cause = (cause, tt)
-silver_cause old new (Err (fault.Version text)) cause = (cause, tt)
-silver_cause old new (Err fault.Memory) cause = tt
+-- what stops a call of a side's session has its cause
+pub side_cause : {X : Type 0} (side : Color) (old new : Scene) (r : Result X EngineFault)
+    → HasCause (counts_at side old) (counts_at side new) r
+    → IfOk (stopped side r) (IfFault old new)
+side_cause side old new (Ok x) cause = tt
+side_cause side old new (Err fault.Failed) cause = (cause, tt)
+side_cause side old new (Err fault.Ended) cause = (cause, tt)
+side_cause side old new (Err fault.Long) cause = (cause, tt)
+side_cause side old new (Err fault.Silent) cause = (cause, tt)
+side_cause side old new (Err (fault.Version text)) cause = (cause, tt)
+side_cause side old new (Err fault.Memory) cause = tt
 
 -- an outcome under another name has the same cause
 pub cause_as : {X : Type 0} (old new : Scene) {r other : Result (Result X SideFault) AllocError}

@@ -1,10 +1,10 @@
 //! A match between two engines.
 ghost use Rattle.std.specs.Prelude.{◌≡◌, ℕ, List, Option, Ok, Some, IfOk, OnOk};
-ghost use Rattle.arimaa_match.specs.Match.{AreEnded, Finished, IfEndsByFault, IfEngineFault, after_thinking, after_verdict, finished_as, match_of, playing, turn, turned_as};
+ghost use Rattle.arimaa_match.specs.Match.{AreEnded, IfEndsByFault, IfEngineFault, after_thinking, after_verdict, finished_as, match_of, playing, turn, turned_as};
 ghost use Rattle.arimaa_match.specs.Parts.{AreWhole, Went, line_at, ports, scene};
 ghost use Rattle.arimaa_match.specs.Records.{IsAcceptedMatch};
 ghost use Rattle.arimaa_match.specs.Texts.{HasEnded};
-ghost use Rattle.arimaa_match.specs.MatchState.{broken_off, before_match};
+ghost use Rattle.arimaa_match.specs.MatchState.{broken_off};
 
 use crate::ending::{MatchDone, MatchEnd, Verdict};
 use crate::quits::quit_both;

@@ -1,5 +1,5 @@
 //! What is said to the engines of a match, and heard of them.
-ghost use Rattle.std.specs.Prelude.{◌≡◌, ℕ, List, Option, false, IfOk};
+ghost use Rattle.std.specs.Prelude.{◌≡◌, ℕ, List, Option, IfOk};
 ghost use Rattle.arimaa_aei.specs.Answers.{spoken};
 ghost use Rattle.arimaa_engine.specs.Session.{asking, telling};
 ghost use Rattle.arimaa_engine.specs.Waits.{text_of_move};

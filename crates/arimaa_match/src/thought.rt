@@ -1,8 +1,9 @@
 //! A side thinks.
-ghost use Rattle.std.specs.Prelude.{◌≡◌, ℕ, List, Option, Ok, IfOk};
+ghost use Rattle.std.specs.Prelude.{ℕ, List, Option, Ok, IfOk};
+ghost use Rattle.arimaa_engine.specs.Session.{telling};
 ghost use Rattle.arimaa_match.specs.Match.{announcing, asking_timed, telling_reserves, thinking};
 ghost use Rattle.arimaa_match.specs.Thoughts.{thought};
-ghost use Rattle.arimaa_match.specs.Parts.{AreAfter, AreWhole, IfFault, Went, line_at, ports, scene};
+ghost use Rattle.arimaa_match.specs.Parts.{AreAfter, AreWhole, IfFault, Went, if_fine, line_at, ports, scene, with_engine};
 
 use crate::side_fault::SideFault;
 use crate::talk::{ask, tell};
@@ -11,6 +12,36 @@ use arimaa_board::Color;
 use arimaa_engine::Session;
 use arimaa_outside::{Clock, Port};
 use std::alloc::AllocError;
+
+// Tells a side's engine something, and then a side's engine something else.
+fn tell_both<P: Port>(
+    gold: &mut Session<P>,
+    silver: &mut Session<P>,
+    side: Color,
+    command: &Command,
+    next_side: Color,
+    next_command: &Command,
+) -> Result<Result<(), SideFault>, AllocError>
+    requires { AreWhole gold.old silver.old }
+    ensures went { (given : Option (List ℕ))
+        → Went (if_fine (with_engine side (telling command.now)) (λ _.
+        with_engine next_side (telling next_command.now)))
+        (scene P.sent P.answers P.counts gold.old silver.old given)
+        (scene P.sent P.answers P.counts gold.new silver.new given)
+        result }
+    ensures after { IfOk result (λ r. AreAfter r gold.new silver.new) }
+    ensures cause { IfOk result (IfFault
+        (ports P.sent P.answers P.counts gold.old silver.old)
+        (ports P.sent P.answers P.counts gold.new silver.new)) }
+{
+    match tell(gold, silver, side, command) {
+        Err(e) => Err(e),
+        Ok(told) => match told {
+            Err(fault) => Ok(Err(fault)),
+            Ok(()) => tell(gold, silver, next_side, next_command),
+        },
+    }
+}
 
 // Tells a side's engine both reserves, in whole seconds.
 fn tell_reserves<P: Port>(
@@ -31,33 +62,15 @@ fn tell_reserves<P: Port>(
         (ports P.sent P.answers P.counts gold.old silver.old)
         (ports P.sent P.answers P.counts gold.new silver.new)) }
 {
-    let value = gold_reserve / 1000;
-    match tell(
-        gold,
-        silver,
-        side,
-        &Command::SetOption {
-            name: OptionName::GReserve,
-            value,
-        },
-    ) {
-        Err(e) => Err(e),
-        Ok(told) => match told {
-            Err(fault) => Ok(Err(fault)),
-            Ok(()) => {
-                let value = silver_reserve / 1000;
-                tell(
-                    gold,
-                    silver,
-                    side,
-                    &Command::SetOption {
-                        name: OptionName::SReserve,
-                        value,
-                    },
-                )
-            }
-        },
-    }
+    let of_gold = Command::SetOption {
+        name: OptionName::GReserve,
+        value: gold_reserve / 1000,
+    };
+    let of_silver = Command::SetOption {
+        name: OptionName::SReserve,
+        value: silver_reserve / 1000,
+    };
+    tell_both(gold, silver, side, &of_gold, side, &of_silver)
 }
 
 // Asks a side's engine, and answers the time that it used.
@@ -119,6 +132,7 @@ pub(crate) fn think<P: Port, K: Clock>(
 }
 
 /// Tells both engines what was booked, Gold's first.
+#[tactic(auto, unfolding(crate::specs::Match::announcing))]
 pub(crate) fn announce<P: Port>(
     gold: &mut Session<P>,
     silver: &mut Session<P>,
@@ -134,11 +148,5 @@ pub(crate) fn announce<P: Port>(
         (ports P.sent P.answers P.counts gold.old silver.old)
         (ports P.sent P.answers P.counts gold.new silver.new)) }
 {
-    match tell(gold, silver, Color::Gold, made) {
-        Err(e) => Err(e),
-        Ok(told) => match told {
-            Err(fault) => Ok(Err(fault)),
-            Ok(()) => tell(gold, silver, Color::Silver, made),
-        },
-    }
+    tell_both(gold, silver, Color::Gold, made, Color::Silver, made)
 }

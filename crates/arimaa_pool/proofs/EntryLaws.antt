@@ -1,18 +1,14 @@
 -- The entry of a position that is won, as it is written.
-use Rattle.std.proofs.Common.{◌≡◌, ℕ, suc, ◌+◌, ◌-◌, ◌<◌, ◌≤◌, List, [], ◌∷◌, map, length, Option, Some, None, Result, Ok, Err, Bool, true, false, inl, inr, refl, sym, ◌∙◌, ap, subst, arith}
-use Rattle.std.specs.Prelude.{IsTrue, is_some, is_ok, reverse, IfSome, IfOk, IfErr}
+use Rattle.std.proofs.Common.{◌≡◌, ℕ, suc, ◌-◌, ◌<◌, ◌≤◌, List, [], ◌∷◌, length, Option, Some, Result, Ok, Err, true, refl, sym, ◌∙◌, ap, subst, arith}
+use Rattle.std.specs.Prelude.{is_some, is_ok, reverse, IfSome, IfOk, IfErr}
 use Rattle.std.proofs.lemmas.Bool.{and_parts, leb-true}
 use Rattle.arimaa_board.specs.declared.piece.Color.{Color}
-use Rattle.arimaa_board.specs.declared.piece.Piece.{Piece}
-use Rattle.arimaa_board.specs.Board.{same_color}
 use Rattle.arimaa_board.specs.declared.board.Board.{Board}
 use Rattle.arimaa_board.specs.declared.position.Step.{Step}
 use Rattle.arimaa_board.specs.declared.position.Position.{Position}
 use Rattle.arimaa_board.specs.declared.turn.NotedStep.{NotedStep}
 use Rattle.arimaa_board.specs.Noted.{noted_turn, noted_marks}
-use Rattle.arimaa_model.specs.Decided.{decided}
-use Rattle.arimaa_model.specs.Results.{next, result_of, stands_in}
-use Rattle.arimaa_model.specs.Wins.{wins}
+use Rattle.arimaa_model.specs.Results.{next, result_of}
 use Rattle.arimaa_model.specs.Ranks.{IsRank, rank_within}
 use Rattle.arimaa_model.specs.Marks.{marks_of, removed_by}
 use Rattle.arimaa_model.specs.Moves.{after}
@@ -24,13 +20,13 @@ use Rattle.arimaa_model.proofs.Members.{In}
 use Rattle.arimaa_model.proofs.Positions.{In-stands}
 use Rattle.arimaa_model.proofs.Listed.{result-turn}
 use Rattle.arimaa_model.proofs.FirstTurns.{entry-turn, first-won, best-result}
-use Rattle.arimaa_model.proofs.Ranking.{rank-is, rank-bound}
+use Rattle.arimaa_model.proofs.Ranking.{rank-is}
 use Rattle.arimaa_model.proofs.Meeting.{HasEntry, entry-has, entry-position, entry-rank}
 use Rattle.arimaa_step.proofs.Forward.{is_turn-state}
 use Rattle.arimaa_step.proofs.TurnLaws.{is_turn_back, turn_applied}
-use Rattle.arimaa_forced.specs.Search.{first_decisive, looked_at, is_decisive, crowd}
+use Rattle.arimaa_forced.specs.Search.{first_decisive, looked_at, is_decisive}
 use Rattle.arimaa_forced.specs.Needs.{IsAsked, place}
-use Rattle.arimaa_forced.specs.Entries.{steps_with_marks, entry_with_marks}
+use Rattle.arimaa_forced.specs.Entries.{steps_with_marks}
 use Rattle.arimaa_forced.specs.declared.entry.Entry.{Entry}
 use Rattle.arimaa_pool.specs.Terms.{Terms}
 use Rattle.arimaa_pool.specs.Extraction.{written_entry}

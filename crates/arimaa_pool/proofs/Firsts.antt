@@ -1,5 +1,5 @@
 -- The first position of a list that ends a look.
-use Rattle.std.proofs.Common.{◌≡◌, ℕ, ◌+◌, ◌<◌, ◌≤◌, List, [], ◌∷◌, ◌++◌, length, drop, get_or, Option, Some, None, Bool, true, false, cond, not, inl, inr, refl, sym, ◌∙◌, ap, arith}
+use Rattle.std.proofs.Common.{◌≡◌, ℕ, ◌+◌, ◌≤◌, List, [], ◌∷◌, length, drop, Some, Bool, true, false, cond, not, inl, inr, refl, sym, ◌∙◌, ap, arith}
 use mathlib.Core.Bool.{beq}
 use Rattle.std.specs.List.{slice_get, find}
 use Rattle.std.proofs.Math.ListN.{drop_of_length-le}

@@ -1,5 +1,5 @@
 -- Stops that are handed on.
-use Rattle.std.proofs.Common.{◌≡◌, ℕ, Ok, Err, Result, sym, subst, refl}
+use Rattle.std.proofs.Common.{◌≡◌, ℕ, Ok, Err, Result, sym, subst}
 use Rattle.std.specs.Prelude.{IfErr, IsErrAnd}
 use Rattle.arimaa_board.specs.declared.position.Position.{Position}
 use Rattle.arimaa_pool.specs.declared.stop.Stop.{Stop}

@@ -1,12 +1,11 @@
 -- What the jobs of a depth say of the root.
-use Rattle.std.proofs.Common.{◌≡◌, ℕ, zero, suc, ◌+◌, ◌<◌, ◌≤◌, List, [], ◌∷◌, ◌++◌, length, get_or, Option, Some, None, Result, Ok, Err, Bool, true, false, not, ◌&&◌, ◌||◌, cond, ◌⊎◌, inl, inr, ⊎_elim, refl, sym, ◌∙◌, ap, subst, arith}
+use Rattle.std.proofs.Common.{◌≡◌, ℕ, zero, suc, ◌+◌, ◌<◌, ◌≤◌, List, [], ◌∷◌, ◌++◌, length, get_or, Option, Some, None, Result, Bool, true, false, not, ◌&&◌, ◌||◌, ◌⊎◌, inl, inr, ⊎_elim, refl, sym, ◌∙◌, ap, subst, arith}
 use Rattle.std.specs.Prelude.{IfOk, IfErr, IfSome, nat_lt, nat_le}
 use Rattle.std.specs.List.{slice_get}
 use Rattle.std.proofs.lemmas.Bool.{both_ways}
 use Rattle.std.proofs.lemmas.Bool.Decides.{nat_tests}
 use Rattle.std.proofs.lemmas.Option.{slice_get_within, slice_get-get_or}
 use mathlib.Core.Bool.{beq}
-use Rattle.arimaa_board.specs.declared.piece.Color.{Color}
 use Rattle.arimaa_board.specs.declared.position.Position.{Position}
 use Rattle.arimaa_board.specs.Board.{same_color}
 use Rattle.arimaa_model.specs.Decided.{decided}
@@ -18,14 +17,14 @@ use Rattle.arimaa_model.proofs.Positions.{In-stands}
 use Rattle.arimaa_forced.specs.Search.{is_decisive, looked_at}
 use Rattle.arimaa_forced.proofs.Midst.{Midst, midst-start, midst-here, midst-more, midst-decisive, midst-end}
 use Rattle.arimaa_jobs.specs.declared.view.SeatView.{SeatView}
-use Rattle.arimaa_jobs.specs.Rule.{Stands, WholeSees, IsAbove, view_after_draw, view_after_report, view_after_join, smallest_of, ends_above}
-use Rattle.arimaa_jobs.specs.Seats.{Claimed, DrewNoJob, Reported, Looked}
+use Rattle.arimaa_jobs.specs.Rule.{Stands, WholeSees, view_after_draw, view_after_report, view_after_join, smallest_of, ends_above}
+use Rattle.arimaa_jobs.specs.Seats.{DrewNoJob, Reported, Looked}
 use Rattle.arimaa_jobs.proofs.SeatLaws.{stands-snoc, stands-first, stands-second, stands-last, stands-either, smallest-least, smallest-count, smallest-stands, drew-all}
 use Rattle.arimaa_pool.specs.declared.stop.Stop.{Stop}
 use Rattle.arimaa_pool.specs.declared.stopped_job.StoppedJob.{StoppedJob}
 use Rattle.arimaa_pool.specs.Depths.{depth_answer, gives_stop}
 use Rattle.arimaa_pool.specs.Jobs.{Decides, HasStopBy, HasStopped, IsJob, Worked, earlier}
-use Rattle.arimaa_pool.specs.Stops.{IsStop, HasCause}
+use Rattle.arimaa_pool.specs.Stops.{IsStop}
 use Rattle.arimaa_pool.specs.Terms.{Terms}
 
 module _ (t : Terms) (n : ℕ) (p : Position) (undecided : decided p ≡ None) where

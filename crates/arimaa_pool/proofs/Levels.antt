@@ -1,7 +1,10 @@
 -- The queue of positions that are met, and the levels of a strategy.
 use Rattle.std.proofs.Common.{◌≡◌, ℕ, zero, suc, ◌+◌, ◌-◌, ◌<◌, ◌≤◌, List, [], ◌∷◌, ◌++◌, length, take, drop, get_or, map, true, false, cond, ◌⊎◌, inl, inr, ⊎_elim, refl, sym, ◌∙◌, ap, subst, arith, length-append, append_assoc, append-nil}
 use Rattle.std.specs.List.{flat_map}
-use Rattle.std.proofs.lemmas.List.{take-append-drop, take_more}
+use Rattle.std.proofs.Math.ListN.{get_or-append}
+use Rattle.std.proofs.Math.Seq.{take-append_seam}
+use Rattle.std.proofs.lemmas.Bool.{cases_lt}
+use Rattle.std.proofs.lemmas.List.{flat_map_more, take-append-drop, take_all, take_more}
 use Rattle.arimaa_board.specs.declared.piece.Color.{Color}
 use Rattle.arimaa_board.specs.declared.position.Position.{Position}
 use Rattle.arimaa_model.specs.Results.{stands_in, with_new, first_occurrences}
@@ -9,16 +12,11 @@ use Rattle.arimaa_model.specs.Wins.{wins}
 use Rattle.arimaa_model.specs.Strategies.{after_entry, met, first_met, strategy_of, entry_of}
 use Rattle.arimaa_forced.specs.Entries.{entry_with_marks}
 use Rattle.arimaa_model.proofs.Members.{In, In-flat_map, flat_map-In}
-use Rattle.arimaa_model.proofs.Positions.{In-stands, In-first, first-old, first-new}
+use Rattle.arimaa_model.proofs.Positions.{In-stands, In-first, first-new}
 use Rattle.arimaa_model.proofs.Reaching.{first_occurrences-append}
 use Rattle.arimaa_model.proofs.Meeting.{closed, first-met}
 use Rattle.arimaa_pool.specs.Terms.{Terms}
 use Rattle.arimaa_pool.specs.Extraction.{IsQueue, written_entry}
-
-order : (k m : ℕ) → (k ≤ m) ⊎ (m ≤ k)
-order zero m = inl (omega arith)
-order (suc k) zero = inr (omega arith)
-order (suc k) (suc m) = ⊎_elim (λ (l : k ≤ m). inl (omega arith)) (λ (h : m ≤ k). inr (omega arith)) (order k m)
 
 -- first occurrences go on from the list
 record Goes (qs more : List Position) : Type 0 where
@@ -88,22 +86,22 @@ module _ (a : Color) (barred : List Position) (n : ℕ) (p : Position) (won : wi
   level-within : (k : ℕ) → length (M k) ≤ length (M n)
   level-within k =
       ⊎_elim
-      (λ (low : k ≤ n).
+      (λ (low : k < n).
       let number : (n - k) + k ≡ n = omega arith in
       let grows = level-grows k (n - k) in
       let same : length (M ((n - k) + k)) ≡ length (M n) = ap (λ m. length (M m)) number in omega arith)
       (λ (high : n ≤ k).
       let number : (k - n) + n ≡ k = omega arith in
       let same : length (M k) ≡ length (M n) = ap (λ m. length (M m)) (sym number) ∙ ap length (level-same n last-same (k - n)) in omega arith)
-      (order k n)
+      (cases_lt k n)
 
   -- a level that is the same as the next one is the last
   last-level : (k : ℕ) → M (suc k) ≡ M k → M k ≡ M n
   last-level k same =
       ⊎_elim
-      (λ (low : k ≤ n). let number : (n - k) + k ≡ n = omega arith in sym (level-same k same (n - k)) ∙ ap M number)
+      (λ (low : k < n). let number : (n - k) + k ≡ n = omega arith in sym (level-same k same (n - k)) ∙ ap M number)
       (λ (high : n ≤ k). let number : k ≡ (k - n) + n = omega arith in ap M number ∙ level-same n last-same (k - n))
-      (order k n)
+      (cases_lt k n)
 
 module _ (t : Terms) (n : ℕ) (p : Position) (won : wins t.attacker t.barred n p ≡ true) where
   abbrev L : ℕ → List Position
@@ -118,40 +116,23 @@ module _ (t : Terms) (n : ℕ) (p : Position) (won : wins t.attacker t.barred n 
 
   -- what follows after the whole level was played is the next level, of which as many were played
   next-level : (k level : ℕ) (queue : List Position) → k ≡ length (L level) → queue ≡ first_occurrences (L level) (flat_map then (take k (L level))) → queue ≡ L (suc level)
-  next-level k level queue all is = is ∙ ap (λ l. first_occurrences (L level) (flat_map then l)) (ap (λ m. take m (L level)) all ∙ take_all (L level))
-    where
-      take_all : (xs : List Position) → take (length xs) xs ≡ xs
-      take_all [] = refl
-      take_all (x ∷ xs) = ap (λ l. x ∷ l) (take_all xs)
+  next-level k level queue all is = is ∙ ap (λ l. first_occurrences (L level) (flat_map then l)) (take_all k (L level) (omega arith))
 
   turned : (k level : ℕ) (queue : List Position) → k ≡ length (L level) → queue ≡ L (suc level) → queue ≡ first_occurrences (L (suc level)) (flat_map then (take k (L (suc level))))
   turned k level queue all is =
       let goes = goes-first (L level) (flat_map then (L level)) in
-      let begins : take k (L (suc level)) ≡ L level = (λ i. take (all i) (goes.is i)) ∙ take-front (L level) goes.rest in
+      let begins : take k (L (suc level)) ≡ L level = (λ i. take (all i) (goes.is i)) ∙ take-append_seam (L level) goes.rest in
       is ∙ sym (ap (λ l. first_occurrences (L (suc level)) (flat_map then l)) begins ∙ none_new (L (suc level)) (flat_map then (L level)) (λ x i. first-new x (L level) (flat_map then (L level)) i))
-    where
-      take-front : (xs ys : List Position) → take (length xs) (xs ++ ys) ≡ xs
-      take-front [] ys = refl
-      take-front (x ∷ xs) ys = ap (λ l. x ∷ l) (take-front xs ys)
 
   -- one more of a level is played
   one-more : (k level : ℕ) (q : Position) (queue : List Position) → k < length (L level) → queue ≡ first_occurrences (L level) (flat_map then (take k (L level))) → get_or queue k q ≡ q
       → first_occurrences queue (then q) ≡ first_occurrences (L level) (flat_map then (take (k + 1) (L level)))
   one-more k level q queue inside is here =
       let goes = goes-first (L level) (flat_map then (take k (L level))) in
-      let same : get_or queue k q ≡ get_or (L level) k q = ap (λ l. get_or l k q) (is ∙ goes.is) ∙ get_or-front (L level) goes.rest k q inside in
+      let same : get_or queue k q ≡ get_or (L level) k q = ap (λ l. get_or l k q) (is ∙ goes.is) ∙ get_or-append (L level) goes.rest q k inside in
       let split : take (k + 1) (L level) ≡ take k (L level) ++ q ∷ [] = take_more (L level) k q inside ∙ ap (λ x. take k (L level) ++ x ∷ []) (sym same ∙ here) in
-      let parts : flat_map then (take (k + 1) (L level)) ≡ flat_map then (take k (L level)) ++ then q = ap (flat_map then) split ∙ flat_map-last then (take k (L level)) q in
+      let parts : flat_map then (take (k + 1) (L level)) ≡ flat_map then (take k (L level)) ++ then q = ap (flat_map then) split ∙ sym (flat_map_more then [] (take k (L level)) q) in
       sym (ap (first_occurrences (L level)) parts ∙ (first_occurrences-append (L level) (flat_map then (take k (L level))) (then q) ∙ ap (λ l. first_occurrences l (then q)) (sym is)))
-    where
-      get_or-front : (xs ys : List Position) (i : ℕ) (d : Position) → i < length xs → get_or (xs ++ ys) i d ≡ get_or xs i d
-      get_or-front [] ys i d h = absurd (omega arith)
-      get_or-front (x ∷ xs) ys zero d h = refl
-      get_or-front (x ∷ xs) ys (suc i) d h = get_or-front xs ys i d (omega arith)
-
-      flat_map-last : (f : Position → List Position) (xs : List Position) (x : Position) → flat_map f (xs ++ x ∷ []) ≡ flat_map f xs ++ f x
-      flat_map-last f [] x = append-nil (f x)
-      flat_map-last f (y ∷ xs) x = ap (λ l. f y ++ l) (flat_map-last f xs x) ∙ sym (append_assoc (f y) (flat_map f xs) (f x))
 
   -- the next of the queue is played
   pub queue-more : (k : ℕ) (q : Position) (queue : List Position) → IsQueue t n p k queue → k < length queue → get_or queue k q ≡ q → IsQueue t n p (k + 1) (first_occurrences queue (then q))
@@ -164,13 +145,7 @@ module _ (t : Terms) (n : ℕ) (p : Position) (won : wins t.attacker t.barred n 
       let whole = next-level k is.level queue all is.queue_is in
       let more : k < length (L (suc is.level)) = let same : length queue ≡ length (L (suc is.level)) = ap length whole in omega arith in
       record { level = suc is.level; played = omega arith; queue_is = one-more k (suc is.level) q queue more (turned k is.level queue all whole) here })
-      (below k (length (L is.level)))
-    where
-      below : (k m : ℕ) → (k < m) ⊎ (m ≤ k)
-      below zero zero = inr (omega arith)
-      below zero (suc m) = inl (omega arith)
-      below (suc k) zero = inr (omega arith)
-      below (suc k) (suc m) = ⊎_elim (λ (l : k < m). inl (omega arith)) (λ (h : m ≤ k). inr (omega arith)) (below k m)
+      (cases_lt k (length (L is.level)))
 
   -- each position of the queue is met
   pub queue-met : (k : ℕ) (queue : List Position) → IsQueue t n p k queue → (x : Position) → In x queue → In x (L n)

@@ -1,11 +1,10 @@
 -- Questions that are needed.
-use Rattle.std.proofs.Common.{◌≡◌, ℕ, zero, suc, ◌+◌, ◌-◌, ◌<◌, ◌≤◌, List, [], ◌∷◌, map, length, get_or, inl, inr, ⊎_elim, refl, sym, ◌∙◌, ap, subst, arith}
+use Rattle.std.proofs.Common.{ℕ, suc, ◌-◌, ◌≤◌, List, [], ◌∷◌, map, inl, inr, sym, ◌∙◌, ap, subst, arith}
 use Rattle.std.specs.List.{Contains}
 use Rattle.arimaa_board.specs.declared.piece.Color.{Color}
 use Rattle.arimaa_board.specs.declared.position.Position.{Position}
-use Rattle.arimaa_model.specs.Wins.{wins}
 use Rattle.arimaa_model.specs.Ranks.{IsRank, rank_within}
-use Rattle.arimaa_model.specs.Strategies.{Planned, entry_of, met, strategy_of}
+use Rattle.arimaa_model.specs.Strategies.{entry_of, met, strategy_of}
 use Rattle.arimaa_model.proofs.Members.{In}
 use Rattle.arimaa_model.proofs.Meeting.{entry-position, entry-rank}
 use Rattle.arimaa_model.proofs.Ranking.{wins-le}

@@ -1,6 +1,6 @@
 -- Ranks that are not below some depth.
-use Rattle.std.proofs.Common.{◌≡◌, ℕ, zero, suc, ◌+◌, ◌-◌, ◌<◌, ◌≤◌, List, [], ◌∷◌, Bool, true, false, Option, Some, None, length, is_some, ◌⊎◌, inl, inr, ⊎_elim, refl, sym, ◌∙◌, ap, subst, arith}
-use Rattle.std.proofs.lemmas.Bool.{both_ways, false_from_ne_true}
+use Rattle.std.proofs.Common.{◌≡◌, ℕ, zero, suc, ◌+◌, ◌-◌, ◌<◌, ◌≤◌, List, [], ◌∷◌, true, false, Option, Some, None, length, is_some, ◌⊎◌, inl, ⊎_elim, refl, sym, ◌∙◌, ap, subst, arith}
+use Rattle.std.proofs.lemmas.Bool.{both_ways, cases_lt, false_from_ne_true}
 use Rattle.arimaa_board.specs.declared.piece.Color.{Color}
 use Rattle.arimaa_board.specs.declared.position.Position.{Position}
 use Rattle.arimaa_model.specs.Decided.{decided}
@@ -24,17 +24,11 @@ module _ (a : Color) (barred : List Position) (p : Position) where
             ⊎_elim
             (λ (low : rank_within a barred n p < d). absurd (both_ways _ (lost (rank_within a barred n p) low) exact.won))
             (λ (high : d ≤ rank_within a barred n p). high)
-            (below (rank_within a barred n p) d)
+            (cases_lt (rank_within a barred n p) d)
         | false ↦ λ none.
             let last : n ≡ rank_within a barred n p = rank-from a barred n n p (omega arith) (λ j less. false_from_ne_true _ (λ won. both_ways _ none (wins-le a barred j n p (omega arith) won))) (inl refl) in
             omega arith
       ] refl
-    where
-      below : (k m : ℕ) → (k < m) ⊎ (m ≤ k)
-      below zero zero = inr (omega arith)
-      below zero (suc m) = inl (omega arith)
-      below (suc k) zero = inr (omega arith)
-      below (suc k) (suc m) = ⊎_elim (λ (l : k < m). inl (omega arith)) (λ (h : m ≤ k). inr (omega arith)) (below k m)
 
   -- the rank is the same within any number of turns that is enough
   pub rank-same : (r n : ℕ) → IsRank a barred p r → r ≤ n → rank_within a barred n p ≡ r

@@ -1,10 +1,9 @@
 -- What follows from an answer.
-use Rattle.std.proofs.Common.{◌≡◌, ℕ, suc, ◌+◌, ◌<◌, ◌≤◌, List, [], ◌∷◌, length, map, Some, Ok, Err, Result, true, is_some, refl, sym, ◌∙◌, ap, subst, arith}
+use Rattle.std.proofs.Common.{◌≡◌, ℕ, ◌≤◌, List, [], ◌∷◌, length, map, Some, Ok, Err, Result, true, is_some, refl, sym, ◌∙◌, ap, subst, arith}
 use Rattle.std.specs.Prelude.{IfOk}
 use Rattle.arimaa_board.specs.declared.piece.Color.{Color}
 use Rattle.arimaa_board.specs.declared.position.Position.{Position}
 use Rattle.arimaa_model.specs.Game.{barred_by, present}
-use Rattle.arimaa_model.specs.Ranks.{IsRank}
 use Rattle.arimaa_model.specs.Strategies.{Planned, strategy_of}
 use Rattle.arimaa_forced.specs.Needs.{InNeed}
 use Rattle.arimaa_forced.specs.Play.{WinsEveryPlay}
@@ -16,7 +15,7 @@ use Rattle.arimaa_forced.proofs.NotedEntries.{planned-written}
 use Rattle.arimaa_pool.specs.declared.settings.Settings.{Settings}
 use Rattle.arimaa_pool.specs.declared.stop.Stop.{Stop}
 use Rattle.arimaa_pool.specs.declared.failure.Failure.{Failure}
-use Rattle.arimaa_pool.specs.declared.failure.Failure.TheVariants.{Stopped, Memory}
+use Rattle.arimaa_pool.specs.declared.failure.Failure.TheVariants.{Stopped}
 use Rattle.arimaa_pool.specs.declared.verdict.Verdict.{Verdict}
 use Rattle.arimaa_pool.specs.declared.verdict.Verdict.TheVariants.{Yes, No, Spent, Crowded}
 use Rattle.arimaa_pool.specs.Depths.{IsFound}

@@ -16,4 +16,5 @@ AskOn t askers = All (λ a. padded_value a ≡ t) askers
 -- one of the workers was taken out, if there was one
 abbrev pub IsTaken : Hands → Hands → Option (CachePadded Terms) → Type 0
 IsTaken old new None = (old.count ≡ 0) × (new ≡ old)
-IsTaken old new (Some a) = (padded_value a ≡ old.terms) × (new.terms ≡ old.terms) × (new.count + 1 ≡ old.count)
+IsTaken old new (Some a) =
+    (padded_value a ≡ old.terms) × (new.terms ≡ old.terms) × (new.count + 1 ≡ old.count)

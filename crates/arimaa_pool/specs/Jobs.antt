@@ -1,5 +1,6 @@
--- What workers find out about the jobs of a depth: the job of a number is the next position of this number.
-use Rattle.std.specs.Prelude.{◌≡◌, ℕ, ◌+◌, ◌<◌, ◌≤◌, ◌⊎◌, Bool, true, false, List, [], ◌∷◌, length, nat_le, Option, None, Some, IfSome, if◌then◌else◌}
+-- What workers find out about the jobs of a depth: the job of a number is the next position of this
+-- number.
+use Rattle.std.specs.Prelude.{◌≡◌, ℕ, ◌<◌, ◌≤◌, ◌⊎◌, Bool, true, false, List, [], ◌∷◌, length, nat_le, Option, None, Some, IfSome, if◌then◌else◌}
 use Rattle.std.specs.List.{slice_get}
 use Rattle.crossbeam_utils.specs.Padded.{padded_value}
 use Rattle.arimaa_board.specs.declared.position.Position.{Position}
@@ -20,7 +21,8 @@ IsJob t p k q = slice_get (next t.barred p) k ≡ Some q
 
 -- whether the job of this number is decisive at depth n
 abbrev pub Decides : Terms → ℕ → Position → ℕ → Bool → Type 0
-Decides t n p k answer = (q : Position) → IsJob t p k q → is_decisive t.attacker t.barred n p q ≡ answer
+Decides t n p k answer =
+    (q : Position) → IsJob t p k q → is_decisive t.attacker t.barred n p q ≡ answer
 
 -- the job stopped, for the cause that its stop has
 abbrev pub HasStopped : Terms → ℕ → Position → StoppedJob → Type 0
@@ -38,9 +40,12 @@ earlier (Some s) None = Some s
 earlier (Some s) (Some r) = if nat_le s.job r.job then Some s else Some r
 
 -- what the seat and the stop of a worker say of the jobs of p at depth n
-pub record Worked (t : Terms) (n : ℕ) (p : Position) (v : SeatView) (stopped : Option StoppedJob) : Type 0 where
-  -- of the jobs that it drew, each that is not above the least that it saw was reported, or is not decisive, or stopped, or comes after one that did
-  pub asked : (x : ℕ) → x < v.count → Stands x v.drawn → x ≤ v.saw → Stands x v.reported ⊎ (Decides t n p x false ⊎ HasStopBy stopped x)
+pub record Worked (t : Terms) (n : ℕ) (p : Position) (v : SeatView)
+    (stopped : Option StoppedJob) : Type 0 where
+  -- of the jobs that it drew, each that is not above the least that it saw was reported, or is not
+  -- decisive, or stopped, or comes after one that did
+  pub asked : (x : ℕ) → x < v.count → Stands x v.drawn → x ≤ v.saw
+      → Stands x v.reported ⊎ (Decides t n p x false ⊎ HasStopBy stopped x)
   -- each reported job is decisive
   pub decisive : (x : ℕ) → Stands x v.reported → Decides t n p x true
   -- the stop is that of a job
@@ -54,7 +59,8 @@ KeepsDrawn old new = (new.drawn ≡ old.drawn) × (new.count ≡ old.count) × (
 abbrev pub has_ended : SeatView → Bool
 has_ended v = ends_above v.count v.drawn
 
--- a worker that asks on these terms has a seat of these jobs, of weight 1, and what it found out is right
+-- a worker that asks on these terms has a seat of these jobs, of weight 1, and what it found out is
+-- right
 pub record IsAtWork (jobs : Jobs) (t : Terms) (n : ℕ) (p : Position) (s : Seated) : Type 0 where
   pub terms : padded_value s.asker ≡ t
   pub seat : IsSeatOf jobs s.seat
@@ -70,7 +76,8 @@ abbrev pub IsFresh : Jobs → Terms → ℕ → Position → Seated → Type 0
 IsFresh jobs t n p s = IsAtWork jobs t n p s × (s.stopped ≡ None)
 
 -- the jobs are the next positions of p, which the list has, and are asked about at depth n
-pub record AreJobsOf (jobs : Jobs) (segments : List (List Position)) (t : Terms) (n : ℕ) (p : Position) : Type 0 where
+pub record AreJobsOf (jobs : Jobs) (segments : List (List Position)) (t : Terms) (n : ℕ)
+    (p : Position) : Type 0 where
   pub depth : n ≤ 20
   pub list : segments ≡ next t.barred p ∷ []
   pub count : count_of jobs ≡ length (next t.barred p)

@@ -1,8 +1,9 @@
 -- The limits of a prover's settings.
-use Rattle.std.specs.Prelude.{ℕ, ◌*◌, ◌≤◌, ◌^◌}
+use Rattle.std.specs.Prelude.{◌*◌, ◌≤◌, ◌^◌}
 use Rattle.arimaa_pool.specs.declared.settings.Settings.{Settings}
 
--- 1 to 16 workers, 1 to 262,144 lines, a budget from 1 to 2^40, a room from 1 to 1,048,576, and workers times room at most 4,194,304
+-- 1 to 16 workers, 1 to 262,144 lines, a budget from 1 to 2^40, a room from 1 to 1,048,576, and
+-- workers times room at most 4,194,304
 pub record AreWithinLimits (s : Settings) : Type 0 where
   pub some_workers : 1 ≤ s.workers
   pub most_workers : s.workers ≤ 16

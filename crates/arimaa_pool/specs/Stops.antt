@@ -1,5 +1,5 @@
 -- Why a prover stops without a verdict.
-use Rattle.std.specs.Prelude.{◌≡◌, ℕ, ◌<◌, List}
+use Rattle.std.specs.Prelude.{◌≡◌, ℕ, ◌<◌}
 use Rattle.arimaa_board.specs.declared.position.Position.{Position}
 use Rattle.arimaa_forced.specs.Search.{cost, crowd}
 use Rattle.arimaa_pool.specs.declared.stop.Stop.{Stop}

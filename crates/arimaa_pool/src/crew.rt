@@ -1,5 +1,5 @@
 //! The workers of a prover.
-ghost use Rattle.std.specs.Prelude.{◌≡◌, ℕ, ◌+◌, ◌<◌, ◌≤◌, IfOk, IfErr, OnOk};
+ghost use Rattle.std.specs.Prelude.{◌≡◌, ◌+◌, ◌<◌, ◌≤◌, IfOk, IfErr, OnOk};
 ghost use Rattle.arimaa_model.specs.Wins.{wins};
 ghost use Rattle.arimaa_table.specs.Passes.{setting_of, IsPassOf};
 ghost use Rattle.crossbeam_utils.specs.Padded.{padded_value};

@@ -1,5 +1,5 @@
 //! The entry of one position that the attacker wins.
-ghost use Rattle.std.specs.Prelude.{◌≡◌, ℕ, ◌-◌, ◌<◌, ◌≤◌, [], ◌∷◌, Some, IfOk, IfErr, IsTrue};
+ghost use Rattle.std.specs.Prelude.{◌≡◌, ◌-◌, ◌<◌, ◌≤◌, [], ◌∷◌, Some, IfOk, IfErr, IsTrue};
 ghost use Rattle.arimaa_board.specs.Board.{same_color};
 ghost use Rattle.arimaa_model.specs.Members.{Stands};
 ghost use Rattle.arimaa_model.specs.Ranks.{rank_within};

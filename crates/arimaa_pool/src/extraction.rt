@@ -1,5 +1,5 @@
 //! The strategy is found, breadth first.
-ghost use Rattle.std.specs.Prelude.{◌≡◌, ℕ, ◌+◌, ◌-◌, ◌<◌, ◌≤◌, [], ◌∷◌, ◌++◌, length, map, take, IfOk, IfErr, OnOk, Some, None, IsTrue};
+ghost use Rattle.std.specs.Prelude.{◌≡◌, ◌+◌, ◌-◌, ◌<◌, ◌≤◌, [], ◌∷◌, ◌++◌, map, IfOk, IfErr, OnOk, IsTrue};
 ghost use Rattle.arimaa_model.specs.Ranks.{IsRank, rank_within};
 ghost use Rattle.arimaa_model.specs.Results.{first_occurrences};
 ghost use Rattle.arimaa_model.specs.Strategies.{IsOpen, after_entry, open_replies, first_met, strategy_of};
@@ -12,14 +12,13 @@ ghost use Rattle.arimaa_pool.specs.Failures.{IsFailure};
 use crate::asker::Asker;
 use crate::entries::entry_of;
 use crate::failure::Failure;
-use crate::met::{meet, meet_all};
 use crate::stop::{Reason, Stop};
 use arimaa_board::Position;
 use arimaa_history::Barred;
 use arimaa_model::decided;
 use arimaa_region::Region;
 use arimaa_results::results;
-use arimaa_strategy::Strategy;
+use arimaa_strategy::{Strategy, meet, meet_all};
 use std::alloc::{AllocError, Global};
 
 // Adds the undecided replies to a position of the other side that is won within `rank` turns.

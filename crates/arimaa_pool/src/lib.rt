@@ -10,7 +10,6 @@ mod extraction;
 mod failure;
 mod gate;
 mod meet_gate;
-mod met;
 mod proof;
 mod seated;
 mod settings;

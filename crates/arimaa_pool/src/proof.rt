@@ -1,7 +1,7 @@
 //! The prover.
 ghost use Rattle.std.specs.Prelude.{◌≡◌, ℕ, ◌≤◌, [], length, IfOk};
 ghost use Rattle.arimaa_board.specs.declared.position.Position.{Position};
-ghost use Rattle.arimaa_model.specs.Game.{barred_by, present};
+ghost use Rattle.arimaa_model.specs.Game.{present};
 ghost use Rattle.arimaa_model.specs.Ranks.{IsRank};
 ghost use Rattle.arimaa_forced.specs.Needs.{InNeed};
 ghost use Rattle.arimaa_pool.specs.Failures.{IsFailure};

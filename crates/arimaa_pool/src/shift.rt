@@ -1,11 +1,10 @@
 //! All workers at the jobs of a depth.
-ghost use Rattle.std.specs.Prelude.{◌≡◌, ℕ, ◌+◌, ◌-◌, ◌<◌, ◌≤◌, [], ◌∷◌, length, true, None, All, IfOk, IfErr, OnOk, vec_len, slice_index_or};
+ghost use Rattle.std.specs.Prelude.{◌≡◌, ℕ, ◌+◌, ◌-◌, ◌<◌, ◌≤◌, true, None, All, IfOk, IfErr, OnOk, vec_len, slice_index_or};
 ghost use Rattle.crossbeam_utils.specs.Padded.{padded_value};
-ghost use Rattle.arimaa_model.specs.Results.{next};
 ghost use Rattle.arimaa_jobs.specs.declared.view.SeatView.{SeatView};
 ghost use Rattle.arimaa_jobs.specs.Rule.{Stands, first_view, view_after_draw};
 ghost use Rattle.arimaa_jobs.specs.Seats.{IsSeatOf, count_of, view};
-ghost use Rattle.arimaa_pool.specs.Jobs.{AreJobsOf, Decides, IsAtWork, IsDoneWith, IsFresh, IsJob, KeepsDrawn, Worked, has_ended};
+ghost use Rattle.arimaa_pool.specs.Jobs.{AreJobsOf, Decides, IsDoneWith, IsFresh, IsJob, KeepsDrawn, Worked, has_ended};
 ghost use Rattle.arimaa_pool.specs.Stops.{IsStop};
 
 use crate::asker::Asker;

@@ -10,10 +10,11 @@ use crate::asker::Asker;
 use crate::escapes::Escapes;
 use crate::evasion::escape_of;
 use crate::failure::Failure;
-use crate::queue::{meet, meet_replies};
+use crate::queue::meet_replies;
 use arimaa_board::{Color, Position};
 use arimaa_history::Barred;
 use arimaa_region::Region;
+use arimaa_strategy::meet;
 use std::alloc::Global;
 
 // Writes the escape of a position down, after which `depth` turns are left, and adds the positions

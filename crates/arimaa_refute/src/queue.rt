@@ -1,10 +1,7 @@
 //! The positions that want an escape.
-ghost use Rattle.std.specs.Prelude.{◌≡◌, ◌+◌, ◌<◌, ◌≤◌, [], ◌∷◌, length, IfErr, OnOk, is_none, slice_get};
-ghost use Rattle.std.specs.List.{filter};
-ghost use Rattle.arimaa_model.specs.Decided.{decided};
+ghost use Rattle.std.specs.Prelude.{◌≡◌, ◌≤◌, [], IfErr, OnOk};
 ghost use Rattle.arimaa_model.specs.Results.{first_occurrences};
 ghost use Rattle.arimaa_model.specs.Strategies.{open_replies};
-ghost use Rattle.arimaa_region.specs.Segments.{live_of};
 ghost use Rattle.arimaa_refute.specs.Refutations.{IsBelow, IsFailure};
 
 use crate::asker::Asker;
@@ -14,31 +11,7 @@ use arimaa_history::Barred;
 use arimaa_model::decided;
 use arimaa_region::Region;
 use arimaa_results::results;
-use std::alloc::AllocError;
-
-// Adds an undecided position at the end, unless it stands there.
-pub(crate) fn meet(queue: &mut Barred, q: &Position) -> Result<(), AllocError>
-    ensures { OnOk result (queue.new
-        ≡ first_occurrences queue.old (filter (λ x. is_none (decided x)) (q.now ∷ []))) }
-{
-    if decided(q).is_some() || queue.contains(q) {
-        return Ok(());
-    }
-    queue.push(*q)?;
-    Ok(())
-}
-
-// Adds the undecided positions of a list that has one segment.
-fn meet_all(queue: &mut Barred, list: &Region) -> Result<(), AllocError>
-    ensures { OnOk result (queue.new
-        ≡ first_occurrences queue.old (filter (λ x. is_none (decided x))
-        (live_of list.now.segments))) }
-{
-    for place in 0..list.live() {
-        meet(queue, &list.get(place))?;
-    }
-    Ok(())
-}
+use arimaa_strategy::meet_all;
 
 // Adds the undecided replies to a position where turns are left.
 pub(crate) fn meet_replies(

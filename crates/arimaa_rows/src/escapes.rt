@@ -1,8 +1,7 @@
 //! What `refute` and `verify` answer: what is played so that a side doesn't win, and each flaw of a
 //! list of escapes.
-use crate::runs::{Outside, Row, check, refuse_all, run};
+use crate::runs::{Change, Row, check, check_changes, check_cut_off, refuse_all};
 use arimaa_outside::Status;
-use std::alloc::{AllocError, Global};
 use std::test::Fail;
 
 // A record with a gold rabbit on a1 and a silver one on h6, Gold to move, and the escapes that show
@@ -25,17 +24,8 @@ const BOTH: [&str; 15] = [
     "1 [                       r                                    R   ] rh6s",
 ];
 
-// What is asked about these lines where another stands in the place of one, and what is answered.
-struct Change {
-    words: &'static str,
-    // The line's number, from 1; 0 for none.
-    number: usize,
-    line: &'static str,
-    output: &'static str,
-    status: Status,
-}
-
-const CHANGES: [Change; 40] = [
+// The same lines with another in the place of one.
+const CHANGES: [Change<'static>; 40] = [
     // as they are
     Change {
         words: "verify gold 2",
@@ -596,30 +586,9 @@ const BAD_WORDS: [&str; 29] = [
     "Verify gold 2",
 ];
 
-// The lines with another in the place of one.
-fn changed(alloc: Global, number: usize, line: &str) -> Result<String, AllocError> {
-    let mut input = String::new(alloc);
-    for (place, same) in BOTH.iter().enumerate() {
-        let text = if place + 1 == number { line } else { *same };
-        input.push_str(text)?;
-        input.push('\n')?;
-    }
-    Ok(input)
-}
-
 #[test]
 fn escapes_of_two_rabbits(rt: HostRuntime) -> Result<(), Fail> {
-    for change in &CHANGES {
-        let input = changed(rt.alloc(), change.number, change.line)?;
-        let row = Row {
-            words: change.words,
-            input: &input,
-            output: change.output,
-            status: change.status,
-        };
-        check(&rt, &[row])?;
-    }
-    Ok(())
+    check_changes(&rt, &BOTH, &CHANGES)
 }
 
 #[test]
@@ -634,21 +603,5 @@ fn words_of_no_refutation(rt: HostRuntime) -> Result<(), Fail> {
 
 #[test]
 fn escapes_cut_off(rt: HostRuntime) -> Result<(), Fail> {
-    let whole = changed(rt.alloc(), 0, "")?;
-    let input = whole.as_bytes();
-    for cut in 0..=input.len() {
-        let done = run(
-            &rt,
-            "verify gold 2 --room 100",
-            &Outside::plain(&input[..cut]),
-        )?;
-        let is_whole = cut + 1 >= input.len();
-        let wanted = if is_whole {
-            Status::Done
-        } else {
-            Status::Answered
-        };
-        assert_eq!(rt; done.status, wanted, "{cut}");
-    }
-    Ok(())
+    check_cut_off(&rt, "verify gold 2 --room 100", &BOTH)
 }

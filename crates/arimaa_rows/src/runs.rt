@@ -66,6 +66,69 @@ pub fn check<R: Threads + Sync + AllocGlobal + Abort>(
     Ok(())
 }
 
+// What is asked about some lines where another stands in the place of one, and what is answered.
+#[derive(Clone, Copy)]
+pub struct Change<'a> {
+    pub words: &'a str,
+    // The line's number, from 1; 0 for none.
+    pub number: usize,
+    pub line: &'a str,
+    pub output: &'a str,
+    pub status: Status,
+}
+
+// The lines with another in the place of one.
+fn changed(alloc: Global, lines: &[&str], number: usize, line: &str) -> Result<String, AllocError> {
+    let mut input = String::new(alloc);
+    let replaced = number.checked_sub(1);
+    for (place, same) in lines.iter().enumerate() {
+        let text = if replaced == Some(place) { line } else { *same };
+        input.push_str(text)?;
+        input.push('\n')?;
+    }
+    Ok(input)
+}
+
+// Runs each example of changed lines.
+pub fn check_changes<R: Threads + Sync + AllocGlobal + Abort>(
+    rt: &R,
+    lines: &[&str],
+    changes: &[Change<'_>],
+) -> Result<(), Fail> {
+    for change in changes {
+        let input = changed(rt.alloc(), lines, change.number, change.line)?;
+        let row = Row {
+            words: change.words,
+            input: &input,
+            output: change.output,
+            status: change.status,
+        };
+        check(rt, &[row])?;
+    }
+    Ok(())
+}
+
+// Asks about the lines cut off at each place: only the last line feed may be left out.
+pub fn check_cut_off<R: Threads + Sync + AllocGlobal + Abort>(
+    rt: &R,
+    words: &str,
+    lines: &[&str],
+) -> Result<(), Fail> {
+    let whole = changed(rt.alloc(), lines, 0, "")?;
+    let input = whole.as_bytes();
+    for cut in 0..=input.len() {
+        let done = run(rt, words, &Outside::plain(&input[..cut]))?;
+        let is_whole = cut + 1 >= input.len();
+        let wanted = if is_whole {
+            Status::Done
+        } else {
+            Status::Answered
+        };
+        assert_eq!(rt; done.status, wanted, "{cut}");
+    }
+    Ok(())
+}
+
 // Runs each list of words, none of which is in the form of a command.
 pub fn refuse_all<R: Threads + Sync + AllocGlobal + Abort>(
     rt: &R,

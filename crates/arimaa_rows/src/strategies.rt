@@ -1,7 +1,6 @@
 //! What `check` answers: strategies that win, and each fault of one that doesn't.
-use crate::runs::{Outside, Row, check, refuse_all, run};
+use crate::runs::{Change, Row, check, check_changes, check_cut_off, refuse_all};
 use arimaa_outside::Status;
-use std::alloc::{AllocError, Global};
 use std::test::Fail;
 
 // A record, and a strategy for Gold of twelve entries: its rabbit goes to a4, and then to a8 whatever
@@ -23,17 +22,8 @@ const RUN: [&str; 14] = [
     "1 [                            r   R                               ] Ra4n Ra5n Ra6n Ra7n",
 ];
 
-// What is asked about the run where another line stands in the place of one, and what is answered.
-struct Change {
-    words: &'static str,
-    // The line's number, from 1; 0 for none.
-    number: usize,
-    line: &'static str,
-    output: &'static str,
-    status: Status,
-}
-
-const CHANGES: [Change; 10] = [
+// The same lines with another in the place of one.
+const CHANGES: [Change<'static>; 10] = [
     // as it is
     Change {
         words: "check gold 3",
@@ -405,30 +395,9 @@ const BAD_WORDS: [&str; 17] = [
     "--room 5",
 ];
 
-// The run with a line in the place of one.
-fn changed(alloc: Global, number: usize, line: &str) -> Result<String, AllocError> {
-    let mut input = String::new(alloc);
-    for (place, same) in RUN.iter().enumerate() {
-        let text = if place + 1 == number { line } else { *same };
-        input.push_str(text)?;
-        input.push('\n')?;
-    }
-    Ok(input)
-}
-
 #[test]
 fn a_run_to_the_goal(rt: HostRuntime) -> Result<(), Fail> {
-    for change in &CHANGES {
-        let input = changed(rt.alloc(), change.number, change.line)?;
-        let row = Row {
-            words: change.words,
-            input: &input,
-            output: change.output,
-            status: change.status,
-        };
-        check(&rt, &[row])?;
-    }
-    Ok(())
+    check_changes(&rt, &RUN, &CHANGES)
 }
 
 #[test]
@@ -443,21 +412,5 @@ fn words_of_no_check(rt: HostRuntime) -> Result<(), Fail> {
 
 #[test]
 fn a_run_cut_off(rt: HostRuntime) -> Result<(), Fail> {
-    let whole = changed(rt.alloc(), 0, "")?;
-    let input = whole.as_bytes();
-    for cut in 0..=input.len() {
-        let done = run(
-            &rt,
-            "check gold 3 --room 100",
-            &Outside::plain(&input[..cut]),
-        )?;
-        let is_whole = cut + 1 >= input.len();
-        let wanted = if is_whole {
-            Status::Done
-        } else {
-            Status::Answered
-        };
-        assert_eq!(rt; done.status, wanted, "{cut}");
-    }
-    Ok(())
+    check_cut_off(&rt, "check gold 3 --room 100", &RUN)
 }

@@ -6,6 +6,7 @@ mod checker;
 mod entry_line;
 mod fault;
 mod look;
+mod queue;
 mod reader;
 mod strategy;
 #[cfg(test)]
@@ -17,6 +18,7 @@ pub use checked::{Checked, Why};
 pub use checker::{check, led_to};
 pub use entry_line::read_board_and_turn;
 pub use fault::StrategyFault;
+pub use queue::{meet, meet_all};
 pub use reader::read_strategy;
 pub use strategy::Strategy;
 pub use written_form::strategy_text;

@@ -1,7 +1,7 @@
 use Rattle.std.proofs.Common.{◌∙◌, ap}
 use Rattle.arimaa_board.specs.declared.piece.Color.TheVariants.{Gold, Silver}
 use Rattle.arimaa_match.specs.Parts.{with_value}
-use Rattle.arimaa_match.proofs.Counted.{cause_as, gold_cause, silver_cause}
+use Rattle.arimaa_match.proofs.Counted.{cause_as, side_cause}
 use Rattle.arimaa_match.proofs.Parts.{went_as}
 use Rattle.arimaa_match.proofs.Sides.{stopped_with_value, with_gold_went, with_silver_went}
 use Rattle.arimaa_match.proofs.talk.ask.Goals as goal
@@ -24,9 +24,9 @@ returns-in-Silver-clause-went g c = λ given.
 
 pub returns-in-Gold-clause-cause : goal.returns-in-Gold-clause-cause
 returns-in-Gold-clause-cause g c =
-    cause_as _ _ c.stopped.ensures (gold_cause _ _ c.ask-heard.result c.ask-heard.ensures.cause)
+    cause_as _ _ c.stopped.ensures (side_cause Gold _ _ c.ask-heard.result c.ask-heard.ensures.cause)
 
 pub returns-in-Silver-clause-cause : goal.returns-in-Silver-clause-cause
 returns-in-Silver-clause-cause g c =
     cause_as _ _ c.stopped-in-Silver.ensures
-    (silver_cause _ _ c.ask-heard-in-Silver.result c.ask-heard-in-Silver.ensures.cause)
+    (side_cause Silver _ _ c.ask-heard-in-Silver.result c.ask-heard-in-Silver.ensures.cause)

@@ -1,4 +1,5 @@
-use Rattle.arimaa_match.proofs.Counted.{cause_as, gold_cause, silver_cause}
+use Rattle.arimaa_board.specs.declared.piece.Color.TheVariants.{Gold, Silver}
+use Rattle.arimaa_match.proofs.Counted.{cause_as, side_cause}
 use Rattle.arimaa_match.proofs.Parts.{went_as}
 use Rattle.arimaa_match.proofs.Sides.{with_gold_went, with_silver_went}
 use Rattle.arimaa_match.proofs.talk.tell.Goals as goal
@@ -17,9 +18,9 @@ returns-in-Silver-clause-went g c =
 
 pub returns-in-Gold-clause-cause : goal.returns-in-Gold-clause-cause
 returns-in-Gold-clause-cause g c =
-    cause_as _ _ c.stopped.ensures (gold_cause _ _ c.tell-told.result c.tell-told.ensures.cause)
+    cause_as _ _ c.stopped.ensures (side_cause Gold _ _ c.tell-told.result c.tell-told.ensures.cause)
 
 pub returns-in-Silver-clause-cause : goal.returns-in-Silver-clause-cause
 returns-in-Silver-clause-cause g c =
     cause_as _ _ c.stopped-in-Silver.ensures
-    (silver_cause _ _ c.tell-told-in-Silver.result c.tell-told-in-Silver.ensures.cause)
+    (side_cause Silver _ _ c.tell-told-in-Silver.result c.tell-told-in-Silver.ensures.cause)

@@ -1,5 +1,4 @@
-use Rattle.std.proofs.Common.{◌≡◌, ℕ, suc, ◌+◌, ◌<◌, ◌≤◌, None, false, true, length, is_some, rules, refl, sym, ◌∙◌, ap, arith}
-use Rattle.arimaa_board.specs.declared.position.Position.{Position}
+use Rattle.std.proofs.Common.{◌≡◌, ◌<◌, ◌≤◌, false, true, length, is_some, refl, sym, ◌∙◌, ap, arith}
 use Rattle.arimaa_model.specs.Decided.{decided}
 use Rattle.arimaa_model.specs.Ranks.{rank_within}
 use Rattle.arimaa_model.specs.Results.{next}

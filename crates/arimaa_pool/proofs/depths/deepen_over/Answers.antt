@@ -1,5 +1,4 @@
-use Rattle.std.proofs.Common.{◌≡◌, ℕ, suc, ◌+◌, ◌<◌, ◌≤◌, rules, sym, arith}
-use Rattle.arimaa_board.specs.declared.position.Position.{Position}
+use Rattle.std.proofs.Common.{◌≡◌, ◌+◌, ◌<◌, arith}
 use Rattle.arimaa_model.specs.Members.{Stands}
 use Rattle.arimaa_model.specs.Ranks.{rank_within}
 use Rattle.arimaa_forced.specs.Needs.{IsAsked}

@@ -1,7 +1,5 @@
-use Rattle.std.proofs.Common.{◌≡◌, ℕ, ◌-◌, List, Option, Some, Result, Ok, Err, true, is_some, is_ok, refl, sym, ◌∙◌, ap}
+use Rattle.std.proofs.Common.{◌≡◌, ℕ, ◌-◌, Some, Err, is_some, sym, ◌∙◌, ap}
 use Rattle.arimaa_board.specs.declared.position.Position.{Position}
-use Rattle.arimaa_board.specs.declared.position.Step.{Step}
-use Rattle.arimaa_board.specs.declared.turn.NotedStep.{NotedStep}
 use Rattle.arimaa_board.specs.Noted.{noted_turn, noted_marks}
 use Rattle.arimaa_model.specs.Marks.{marks_of}
 use Rattle.arimaa_model.specs.Results.{result_of}

@@ -1,5 +1,4 @@
-use Rattle.std.proofs.Common.{◌≡◌, ℕ, true, false, Some, refl, sym, ◌∙◌, ap, subst}
-use Rattle.arimaa_board.specs.declared.position.Position.{Position}
+use Rattle.std.proofs.Common.{◌≡◌, true, false, sym, ◌∙◌, ap, subst}
 use Rattle.arimaa_model.specs.Members.{Stands}
 use Rattle.arimaa_model.specs.Results.{next}
 use Rattle.arimaa_model.specs.Wins.{wins}
@@ -7,7 +6,7 @@ use Rattle.arimaa_model.proofs.Positions.{In-stands}
 use Rattle.arimaa_forced.specs.Search.{looked_at}
 use Rattle.arimaa_pool.specs.Terms.{Terms}
 use Rattle.arimaa_pool.proofs.HandedOn.{stop_on}
-use Rattle.arimaa_pool.proofs.Firsts.{first_left, none_left, Left, left-more, left-here, left-looked, own-ends}
+use Rattle.arimaa_pool.proofs.Firsts.{first_left, Left, left-more, left-here, left-looked, own-ends}
 use Rattle.arimaa_pool.proofs.entries.first_won.Goals as goal
 
 pub returns-in_err-ask-clause-stop : goal.returns-in_err-ask-clause-stop

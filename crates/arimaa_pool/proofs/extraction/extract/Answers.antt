@@ -11,7 +11,7 @@ use Rattle.arimaa_forced.specs.declared.entry.Entry.{Entry}
 use Rattle.arimaa_pool.specs.Terms.{Terms}
 use Rattle.arimaa_pool.specs.Extraction.{IsQueue, written_entry}
 use Rattle.arimaa_pool.proofs.HandedOn.{fail_on}
-use Rattle.arimaa_pool.proofs.Levels.{queue-start, queue-more, queue-met, queue-short, queue-end, played-more, played-all, all-entries}
+use Rattle.arimaa_pool.proofs.Levels.{queue-more, queue-met, queue-short, queue-end, played-more, played-all, all-entries}
 use Rattle.arimaa_pool.proofs.NeededQuestions.{met-need, root-need}
 use Rattle.arimaa_pool.proofs.extraction.extract.Goals as goal
 

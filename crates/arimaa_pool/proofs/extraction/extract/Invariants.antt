@@ -1,4 +1,4 @@
-use Rattle.std.proofs.Common.{◌≡◌, ◌-◌, ℕ, [], length, take, map}
+use Rattle.std.proofs.Common.{◌≡◌, ◌-◌, [], length, take, map}
 use Rattle.arimaa_model.specs.Strategies.{met}
 use Rattle.arimaa_pool.specs.Extraction.{IsQueue, written_entry}
 use Rattle.arimaa_pool.proofs.extraction.extract.Given as goal

@@ -1,5 +1,4 @@
-use Rattle.std.proofs.Common.{◌≡◌, ℕ, zero, suc, ◌+◌, ◌<◌, ◌≤◌, [], length, true, false, is_some, None, refl, sym, ◌∙◌, ap, arith}
-use Rattle.arimaa_board.specs.declared.position.Position.{Position}
+use Rattle.std.proofs.Common.{◌≡◌, ◌<◌, length, false, is_some, refl, sym, ◌∙◌, ap, arith}
 use Rattle.arimaa_model.specs.Decided.{decided}
 use Rattle.arimaa_model.specs.Results.{next}
 use Rattle.arimaa_region.specs.Segments.{live_of}

@@ -1,7 +1,6 @@
-use Rattle.std.proofs.Common.{◌≡◌, ℕ, ◌≤◌, Option, Some, sym, ◌∙◌, subst}
+use Rattle.std.proofs.Common.{◌≡◌, ◌∙◌, subst}
 use Rattle.std.specs.Prelude.{IfOk}
-use Rattle.arimaa_board.specs.declared.position.Position.{Position}
-use Rattle.arimaa_model.specs.Ranks.{IsRank, rank_within}
+use Rattle.arimaa_model.specs.Ranks.{rank_within}
 use Rattle.arimaa_forced.specs.Needs.{IsAsked, InNeed, deepening}
 use Rattle.arimaa_pool.specs.Crews.{IsTaken}
 use Rattle.arimaa_pool.specs.Depths.{IsFound}

@@ -1,7 +1,5 @@
 use Rattle.std.proofs.Common.{◌≡◌, Some, is_some, refl, sym, ◌∙◌, ap}
-use Rattle.arimaa_board.specs.declared.position.Position.{Position}
-use Rattle.arimaa_model.specs.Game.{barred_by, present}
-use Rattle.arimaa_pool.specs.Terms.{Terms}
+use Rattle.arimaa_model.specs.Game.{present}
 use Rattle.arimaa_pool.specs.Verdicts.{terms_of}
 use Rattle.arimaa_pool.proofs.VerdictLaws.{terms_same, present-some, answer_for, answer-plays, answer-done}
 use Rattle.arimaa_pool.proofs.proof.prove.Goals as goal

@@ -1,5 +1,3 @@
-use Rattle.std.proofs.Common.{◌≡◌, ℕ, ◌≤◌}
-use Rattle.arimaa_board.specs.declared.position.Position.{Position}
 use Rattle.arimaa_forced.specs.Needs.{InNeed}
 use Rattle.arimaa_pool.specs.Terms.{Terms}
 use Rattle.arimaa_pool.proofs.HandedOn.{wider_failure}

@@ -1,9 +1,7 @@
-use Rattle.std.proofs.Common.{rules, ◌≡◌, ℕ, ◌<◌, ◌≤◌, ◌∷◌, ◌++◌, ◌∙◌, Bool, Option, Some, true, false, not, sym, ap, subst, refl, arith}
-use Rattle.arimaa_jobs.specs.declared.view.SeatView.{SeatView}
+use Rattle.std.proofs.Common.{rules, ◌≡◌, Bool, Option, true, false, sym, subst, refl, arith}
 use Rattle.arimaa_jobs.specs.Seats.{view}
 use Rattle.arimaa_pool.specs.Jobs.{Decides, Worked}
 use Rattle.arimaa_pool.specs.declared.stopped_job.StoppedJob.{StoppedJob}
-use Rattle.arimaa_pool.specs.Terms.{Terms}
 use Rattle.arimaa_pool.proofs.JobLaws.{worked-skip, worked-goes, worked-stop, worked-report}
 use Rattle.arimaa_pool.proofs.shift.Shift.ask_drawn.Goals as goal
 

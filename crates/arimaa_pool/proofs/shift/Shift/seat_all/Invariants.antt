@@ -1,6 +1,6 @@
 use Rattle.std.proofs.Common.{◌≡◌, ◌+◌, []}
 use Rattle.std.specs.Prelude.{All, vec_len}
-use Rattle.arimaa_jobs.specs.Seats.{IsSeatOf, view, count_of}
+use Rattle.arimaa_jobs.specs.Seats.{IsSeatOf, view}
 use Rattle.arimaa_pool.specs.Jobs.{IsFresh}
 use Rattle.arimaa_pool.proofs.shift.Shift.seat_all.Given as goal
 

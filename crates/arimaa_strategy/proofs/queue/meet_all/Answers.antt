@@ -9,7 +9,7 @@ use Rattle.arimaa_model.specs.Decided.{decided}
 use Rattle.arimaa_model.specs.Results.{first_occurrences}
 use Rattle.arimaa_model.proofs.Reaching.{first_occurrences-append}
 use Rattle.arimaa_region.specs.Segments.{live_of}
-use Rattle.arimaa_refute.proofs.queue.meet_all.Goals as goal
+use Rattle.arimaa_strategy.proofs.queue.meet_all.Goals as goal
 
 abbrev undecided : Position → Bool
 undecided x = is_none (decided x)

@@ -1,8 +1,8 @@
-//! The positions that have been met.
-ghost use Rattle.std.specs.Prelude.{◌≡◌, ◌+◌, ◌<◌, ◌≤◌, [], ◌∷◌, ◌++◌, IfOk, OnOk, slice_get, length, Some, None, is_none};
+//! The positions that are met, each once, in the order of first meeting.
+ghost use Rattle.std.specs.Prelude.{◌≡◌, [], ◌∷◌, OnOk, is_none};
 ghost use Rattle.std.specs.List.{filter};
 ghost use Rattle.arimaa_model.specs.Decided.{decided};
-ghost use Rattle.arimaa_model.specs.Results.{with_new, first_occurrences, next};
+ghost use Rattle.arimaa_model.specs.Results.{first_occurrences};
 ghost use Rattle.arimaa_region.specs.Segments.{live_of};
 
 use arimaa_board::Position;
@@ -11,8 +11,10 @@ use arimaa_model::decided;
 use arimaa_region::Region;
 use std::alloc::AllocError;
 
-// Adds an undecided position at the end, unless it stands there.
-pub(crate) fn meet(queue: &mut Barred, q: &Position) -> Result<(), AllocError>
+/// Adds an undecided position at the end, unless it stands in the queue. A decided one is not met.
+///
+/// An error says that no memory was left.
+pub fn meet(queue: &mut Barred, q: &Position) -> Result<(), AllocError>
     ensures { OnOk result (queue.new
         ≡ first_occurrences queue.old (filter (λ x. is_none (decided x)) (q.now ∷ []))) }
 {
@@ -23,8 +25,11 @@ pub(crate) fn meet(queue: &mut Barred, q: &Position) -> Result<(), AllocError>
     Ok(())
 }
 
-// Adds the undecided positions of a list that has one segment.
-pub(crate) fn meet_all(queue: &mut Barred, list: &Region) -> Result<(), AllocError>
+/// Adds the undecided ones of the live positions of a list at the end, in their order, each unless
+/// it stands in the queue.
+///
+/// An error says that no memory was left.
+pub fn meet_all(queue: &mut Barred, list: &Region) -> Result<(), AllocError>
     ensures { OnOk result (queue.new
         ≡ first_occurrences queue.old (filter (λ x. is_none (decided x))
         (live_of list.now.segments))) }

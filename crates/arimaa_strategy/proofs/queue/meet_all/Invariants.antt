@@ -4,7 +4,7 @@ use Rattle.std.specs.List.{filter}
 use Rattle.arimaa_model.specs.Decided.{decided}
 use Rattle.arimaa_model.specs.Results.{first_occurrences}
 use Rattle.arimaa_region.specs.Segments.{live_of}
-use Rattle.arimaa_refute.proofs.queue.meet_all.Given as goal
+use Rattle.arimaa_strategy.proofs.queue.meet_all.Given as goal
 
 -- what is left adds to the queue what all add to it
 abbrev pub invariant-loop-place : goal.invariant-loop-place
