@@ -1,5 +1,5 @@
 -- Whether two colours are the same.
-use Rattle.std.proofs.Common.{◌≡◌, true, false, not, refl}
+use Rattle.std.proofs.Common.{◌≡◌, true, not, refl}
 use Rattle.std.specs.Bool.{Decides}
 use Rattle.arimaa_board.specs.declared.piece.Color.{Color}
 use Rattle.arimaa_board.specs.declared.piece.Color.TheVariants.{Gold, Silver}

@@ -1,6 +1,5 @@
-use Rattle.std.proofs.Common.{◌≡◌, Option, None, refl}
+use Rattle.std.proofs.Common.{◌≡◌, None, refl}
 use Rattle.arimaa_board.specs.CodeLaws.{piece_of_code-code_of_content, is_code-code_of_content}
-use Rattle.arimaa_board.specs.declared.piece.Piece.{Piece}
 use Rattle.arimaa_board.specs.Piece.{piece_of_code}
 use Rattle.arimaa_board.specs.Board.{at}
 use Rattle.arimaa_board.proofs.board.Board.moved.Goals as goal

@@ -1,4 +1,4 @@
-use Rattle.std.proofs.Common.{◌≡◌, ◌&&◌, ℕ, sym}
+use Rattle.std.proofs.Common.{sym}
 use Rattle.std.specs.Prelude.{not, is_some}
 use Rattle.arimaa_board.specs.Board.{at}
 use Rattle.arimaa_board.specs.Masks.{stays}
