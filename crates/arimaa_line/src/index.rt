@@ -1,8 +1,11 @@
 //! Where the line of a position lies in a table.
 ghost use Rattle.std.specs.Prelude.{◌≡◌, ℕ, ◌+◌, ◌*◌, ◌<◌, ◌≤◌, ◌%◌, ◌^◌};
+ghost use Rattle.std.specs.Prelude.{Option};
+ghost use Rattle.arimaa_board.specs.declared.piece.Piece.{Piece};
+ghost use Rattle.arimaa_board.specs.Words.{code_at, code_of_content};
 ghost use Rattle.arimaa_line.specs.Index.{piece_share, content_share, side_share, place_of};
 
-use arimaa_board::{Color, Piece, Position, first_square, without};
+use arimaa_board::{Color, Position, first_square, without};
 
 // What a piece of this code on this square adds.
 fn piece_share(square: u64, code: u64) -> u64
@@ -15,16 +18,28 @@ fn piece_share(square: u64, code: u64) -> u64
     v * v + 257 * v
 }
 
-// What a square adds, by what stands on it.
-fn content_share(square: u8, content: Option<Piece>) -> u64
-    requires { square < 64 }
-    ensures value { result ≡ content_share square content }
+// What a square adds, by the code of what stands on it: nothing where it is empty.
+fn code_share(square: u8, code: u64) -> u64
+    requires square { square < 64 }
+    requires code { code < 16 }
+    ensures value { (content : Option Piece) → code ≡ code_of_content content
+        → result ≡ content_share square content }
     ensures small { result < 2 ^ 21 }
 {
-    match content {
-        None => 0,
-        Some(piece) => piece_share(square as u64, piece.code() as u64),
+    if code == 0 {
+        0
+    } else {
+        piece_share(square as u64, code)
     }
+}
+
+// The code of a square in the words of a board.
+fn code_at(words: &[u64; 4], square: u8) -> u64
+    requires { square < 64 }
+    ensures value { result ≡ code_at words.now square }
+    ensures small { result < 16 }
+{
+    (words[square as usize / 16] >> (4 * (square % 16))) % 16
 }
 
 // What the side to move adds.
@@ -48,10 +63,12 @@ pub fn index_of(position: &Position, lines: u32) -> u32
     ensures place { result ≡ place_of position.now lines }
     ensures below { result < lines }
 {
+    let words = position.board.words();
     let mut sum = side_share(position.side);
     let mut rest = position.board.occupied();
     while let Some(square) = first_square(rest) {
-        sum += content_share(square.number(), position.board.at(square));
+        let number = square.number();
+        sum += code_share(number, code_at(&words, number));
         rest = without(rest, square);
     }
     (sum % lines as u64) as u32
