@@ -15,6 +15,7 @@ use crate::leaf::leaf;
 use crate::line::{recall, remember};
 use crate::stop::Stop;
 use arimaa_board::Position;
+use arimaa_line::index_of;
 use arimaa_model::decided;
 use arimaa_region::Region;
 use arimaa_results::results_to_win;
@@ -44,11 +45,12 @@ pub(crate) fn ask(
     ensures replies { left.new < left.old → decided p.now ≡ None → 1 ≤ depth → OnOk result (SteppedThrough (setting_of table.now).attacker (setting_of table.now).barred (lines_of table.now) (depth - 1) p.now (steps_of pass.old) (steps_of pass.new)) }
     ensures answer { Answered (setting_of table.now).attacker (setting_of table.now).barred depth p.now region.old.room (length (live_of region.old.segments)) left.old left.new result }
 {
-    if let Some(verdict) = recall(table, pass, p, depth) {
+    let place = index_of(p, table.lines());
+    if let Some(verdict) = recall(table, pass, place, p, depth) {
         return Ok(verdict);
     }
     let verdict = open_up(table, pass, region, left, p, depth)?;
-    remember(table, pass, p, depth, verdict);
+    remember(table, pass, place, p, depth, verdict);
     Ok(verdict)
 }
 
