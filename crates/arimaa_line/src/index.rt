@@ -2,7 +2,10 @@
 ghost use Rattle.std.specs.Prelude.{◌≡◌, ℕ, ◌+◌, ◌*◌, ◌<◌, ◌≤◌, ◌%◌, ◌^◌};
 ghost use Rattle.std.specs.Prelude.{Option};
 ghost use Rattle.arimaa_board.specs.declared.piece.Piece.{Piece};
-ghost use Rattle.arimaa_board.specs.Words.{code_at, code_of_content};
+ghost use Rattle.arimaa_board.specs.Words.{code_of_content};
+ghost use Rattle.arimaa_board.specs.Planes.{plane_code};
+ghost use Rattle.std.specs.Int.{bit_at};
+ghost use Rattle.std.specs.Prelude.{slice_index};
 ghost use Rattle.arimaa_line.specs.Index.{piece_share, content_share, side_share, place_of};
 
 use arimaa_board::{Color, Position, first_square, without};
@@ -33,13 +36,24 @@ fn code_share(square: u8, code: u64) -> u64
     }
 }
 
-// The code of a square in the words of a board.
-fn code_at(words: &[u64; 4], square: u8) -> u64
+// The bit of a plane at a square.
+fn bit(plane: u64, square: u8) -> u64
     requires { square < 64 }
-    ensures value { result ≡ code_at words.now square }
+    ensures value { result ≡ bit_at plane square }
+    ensures small { result < 2 }
+{
+    (plane >> square) % 2
+}
+
+// The code of a square in the planes of a board.
+fn code_at(planes: [u64; 4], square: u8) -> u64
+    requires { square < 64 }
+    ensures value { result ≡ plane_code (slice_index planes 0) (slice_index planes 1)
+        (slice_index planes 2) (slice_index planes 3) square }
     ensures small { result < 16 }
 {
-    (words[square as usize / 16] >> (4 * (square % 16))) % 16
+    let [a, b, c, s] = planes;
+    bit(a, square) + 2 * bit(b, square) + 4 * bit(c, square) + 8 * bit(s, square)
 }
 
 // What the side to move adds.
@@ -63,12 +77,12 @@ pub fn index_of(position: &Position, lines: u32) -> u32
     ensures place { result ≡ place_of position.now lines }
     ensures below { result < lines }
 {
-    let words = position.board.words();
+    let planes = position.board.planes();
     let mut sum = side_share(position.side);
     let mut rest = position.board.occupied();
     while let Some(square) = first_square(rest) {
         let number = square.number();
-        sum += code_share(number, code_at(&words, number));
+        sum += code_share(number, code_at(planes, number));
         rest = without(rest, square);
     }
     (sum % lines as u64) as u32
