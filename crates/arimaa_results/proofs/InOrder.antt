@@ -27,7 +27,7 @@ use Rattle.arimaa_results.specs.Layering.{keeps, planes_after, layer}
 use Rattle.arimaa_results.specs.NextStates.{pairs_by, next_pairs}
 use Rattle.arimaa_results.proofs.Beginning.{grows_fits}
 use Rattle.arimaa_results.proofs.Keeping.{with_new-there, with_new-old, with_new-new, In-firsts}
-use Rattle.arimaa_results.proofs.Layers.{IsOf, In-next, In-next-grows, layer-of, layer-suc, decoded, decoded-of}
+use Rattle.arimaa_results.proofs.Layers.{IsOf, In-next, In-next-grows, layer-of, layer-zero, layer-suc, decoded, decoded-of, start_gives}
 use Rattle.arimaa_results.proofs.News.{news, firsts-news, new-absent}
 use Rattle.arimaa_results.proofs.StatePairs.{pairs_by-is, states_by-is}
 
@@ -270,9 +270,23 @@ module _ {R : Type 0} (all : TurnState → List R) (some : TurnState → Step �
         ∙ ap (λ l. flat_map keeps (next_states (D w)) ++ l) (pairs_words ws)
 
     module _ (long : length p.board ≡ 64) where
+      -- the state after at most two steps, on a board on which no trap is due
+      calm_state : (back : List Step) → length back < 3 → settle (after_back p.board back) ≡ after_back p.board back → IsCalm p (state_of p back)
+      unfolding next_states
+      calm_state back few calm = record {
+        calm = calm;
+        few = few;
+        decodes = λ s k ok.
+            let there : In (next_state (state_of p back) s) (next_states (state_of p back)) =
+            flat_map-In (states_by (state_of p back)) (next_state (state_of p back) s) s (candidates (after_back p.board back)) k
+            (subst (λ l. In (next_state (state_of p back) s) l) (sym (states_by-is (state_of p back) s ∙ ap (λ v. cond v (next_state (state_of p back) s ∷ []) []) ok)) (inl refl)) in
+            let next = In-next p back (next_state (state_of p back) s) (omega arith) there in
+            ap (λ st. D (state_planes st)) next.1 ∙ (decoded p long (next.0 ∷ back) (omega arith) ∙ sym next.1);
+      }
+
       -- the states after one or two steps
       calm_at : (n : ℕ) → n < 2 → (w : List ℕ) → In w (layer p (suc n)) → IsCalm p (D w)
-      unfolding planes_after next_states
+      unfolding planes_after
       calm_at n low w i =
           let j = ⊎_elim (λ no. absurd no) (λ k. k) (In-firsts same_words same_words-Decides w [] (flat_map (planes_after p) (layer p n)) (subst (λ l. In w l) (layer-suc p n) i)) in
           let from = In-flat_map (planes_after p) w (layer p n) j in
@@ -284,32 +298,44 @@ module _ {R : Type 0} (all : TurnState → List R) (some : TurnState → Step �
           let count : length back ≡ suc n = ap suc before.1 in
           let is_words : w ≡ state_planes by.0 = ⊎_elim (λ e. e) (λ no. absurd no) by.2 in
           let is : D w ≡ state_of p back = ap D (is_words ∙ ap state_planes one.1) ∙ decoded p long back (omega arith) in
-          subst (IsCalm p) (sym is) (record {
-            calm = after_settled (after_back p.board before.0) one.0 (grows_fits p.board p.side one.0 before.0 one.2);
-            few = omega arith;
-            decodes = λ s k ok.
-                let there : In (next_state (state_of p back) s) (next_states (state_of p back)) =
-                flat_map-In (states_by (state_of p back)) (next_state (state_of p back) s) s (candidates (after_back p.board back)) k
-                (subst (λ l. In (next_state (state_of p back) s) l) (sym (states_by-is (state_of p back) s ∙ ap (λ v. cond v (next_state (state_of p back) s ∷ []) []) ok)) (inl refl)) in
-                let next = In-next p back (next_state (state_of p back) s) (omega arith) there in
-                ap (λ st. D (state_planes st)) next.1 ∙ (decoded p long (next.0 ∷ back) (omega arith) ∙ sym next.1);
-          })
+          subst (IsCalm p) (sym is) (calm_state back (omega arith) (after_settled (after_back p.board before.0) one.0 (grows_fits p.board p.side one.0 before.0 one.2)))
 
       all_calm : (n : ℕ) → n < 2 → (ws : List (List ℕ)) → ((w : List ℕ) → In w ws → In w (layer p (suc n))) → AreAllCalm p (map D ws)
       all_calm n low [] among = tt
       all_calm n low (w ∷ ws) among = (calm_at n low w (among w (inl refl)), all_calm n low ws (λ v i. among v (inr i)))
 
-      -- what is placed in order adds what all steps after the states of a layer give
-      pub in_order : (same : R → R → Bool) (decides : (x y : R) → Decides (same x y) (x ≡ y)) → IsLessEach → (n : ℕ) → n < 2 → (q : List R)
-          → firsts same q (brings_last some p (layer p (suc (suc n))) (layer p (suc n))) ≡ firsts same q (flat_map (λ w. flat_map all (next_states (D w))) (layer p (suc n)))
-      in_order same decides each n low q =
-          let L = layer p (suc n) in
-          let us = all_pairs nothing none (map D L) in
-          let kept : layer p (suc (suc n)) ≡ news_of [] (map words us) =
-          layer-suc p (suc n) ∙ (firsts-news same_words same_words-Decides [] (flat_map (planes_after p) L) ∙ ap (news_of []) (sym (pairs_words L))) in
-          let fewer : AreLess Full [] us (placed (news_of [] (map words us)) us) =
-          less p each [] us [] (all_made p [] (map D L) (all_calm n low L (λ w i. i))) (λ w i. absurd i) in
-          let out : firsts same q (flat_map Full us) ≡ firsts same q (placed (news_of [] (map words us)) us) =
-          left_out (firsts same) (with_new same) (λ l. refl) (λ l xs x. refl) (with_new-there same decides) (with_new-old same decides) (with_new-new same decides) Full us q (placed (news_of [] (map words us)) us) fewer in
-          ap (firsts same q) (sym (pairs_placed L (layer p (suc (suc n)))) ∙ ap (λ l. placed l us) kept)
-          ∙ (sym out ∙ ap (firsts same q) (pairs_bring L))
+      module _ (same : R → R → Bool) (decides : (x y : R) → Decides (same x y) (x ≡ y)) (each : IsLessEach) where
+        -- what is placed in order after the states of a layer, on whose boards no trap is due
+        calm_in_order : (n : ℕ) → AreAllCalm p (map D (layer p n)) → (q : List R)
+            → firsts same q (brings_last some p (layer p (suc n)) (layer p n)) ≡ firsts same q (flat_map (λ w. flat_map all (next_states (D w))) (layer p n))
+        calm_in_order n calm q =
+            let L = layer p n in
+            let us = all_pairs nothing none (map D L) in
+            let kept : layer p (suc n) ≡ news_of [] (map words us) =
+            layer-suc p n ∙ (firsts-news same_words same_words-Decides [] (flat_map (planes_after p) L) ∙ ap (news_of []) (sym (pairs_words L))) in
+            let fewer : AreLess Full [] us (placed (news_of [] (map words us)) us) =
+            less p each [] us [] (all_made p [] (map D L) calm) (λ w i. absurd i) in
+            let out : firsts same q (flat_map Full us) ≡ firsts same q (placed (news_of [] (map words us)) us) =
+            left_out (firsts same) (with_new same) (λ l. refl) (λ l xs x. refl) (with_new-there same decides) (with_new-old same decides) (with_new-new same decides) Full us q (placed (news_of [] (map words us)) us) fewer in
+            ap (firsts same q) (sym (pairs_placed L (layer p (suc n))) ∙ ap (λ l. placed l us) kept)
+            ∙ (sym out ∙ ap (firsts same q) (pairs_bring L))
+
+        -- what is placed in order adds what all steps after the states of a layer give
+        pub in_order : (n : ℕ) → n < 2 → (q : List R)
+            → firsts same q (brings_last some p (layer p (suc (suc n))) (layer p (suc n))) ≡ firsts same q (flat_map (λ w. flat_map all (next_states (D w))) (layer p (suc n)))
+        in_order n low q = calm_in_order (suc n) (all_calm n low (layer p (suc n)) (λ w i. i)) q
+
+        -- so it does after the start board, where no trap of it is due
+        pub start_in_order : settle p.board ≡ p.board → (q : List R)
+            → firsts same q (brings_first some (state_of p []) (layer p 1) (next_pairs (state_of p []))) ≡ firsts same q (flat_map all (next_states (state_of p [])))
+        unfolding brings_last
+        start_in_order calm q =
+            let w = state_planes (state_of p []) in
+            let state : D w ≡ state_of p [] = decoded p long [] (omega arith) in
+            let one : brings_last some p (layer p 1) (layer p 0) ≡ brings_first some (state_of p []) (layer p 1) (next_pairs (state_of p [])) =
+            ap (brings_last some p (layer p 1)) (layer-zero p)
+            ∙ (append-nil (brings_first some (D w) (layer p 1) (next_pairs (D w)))
+            ∙ ap (λ st. brings_first some st (layer p 1) (next_pairs st)) state) in
+            let every : flat_map (λ v. flat_map all (next_states (D v))) (layer p 0) ≡ flat_map all (next_states (state_of p [])) = start_gives p long (λ st. flat_map all (next_states st)) in
+            let are : AreAllCalm p (map D (layer p 0)) = subst (λ l. AreAllCalm p (map D l)) (sym (layer-zero p)) (subst (IsCalm p) (sym state) (calm_state [] (omega arith) calm), tt) in
+            ap (firsts same q) (sym one) ∙ (calm_in_order 0 are q ∙ ap (firsts same q) every)

@@ -93,6 +93,10 @@ kept_start p third segments stands begins =
     ap (λ s. drop third (live_of s)) (stands ∙ layers_to-suc p 2)
     ∙ drop_at (live_of (layers_to p 2)) (layer p 3) third (sym begins)
 
+-- the kept states of the first layer, from its first place on
+pub start_kept : (p : Position) → drop 0 (live_of (layers_to p 1)) ≡ layer p 1
+start_kept p = ap (λ s. drop 0 (live_of s)) (layers_to-suc p 0 ∙ ap (λ l. layer p 1 ∷ l) (layers_to-zero p)) ∙ drop_at [] (layer p 1) 0 refl
+
 -- the kept states of the second layer, from its first place on
 pub kept_first : (p : Position) (second : ℕ) → second ≡ length (live_of (layers_to p 1)) → drop second (live_of (layers_to p 2)) ≡ layer p 2
 kept_first p second begins =

@@ -1,4 +1,4 @@
--- The third and the fourth steps in order: what they give is, in its first occurrences, what all of them do.
+-- The second, third and fourth steps in order: what they give is, in its first occurrences, what all of them do.
 use Rattle.std.proofs.Common.{◌≡◌, ℕ, suc, ◌<◌, List, [], ◌∷◌, length, Bool, true, false, cond, ◌⊎◌, inl, inr, Result, Err, refl, sym, ◌∙◌, ap, subst, arith, append-nil}
 use Rattle.std.specs.Prelude.{is_ok}
 use Rattle.std.specs.List.{flat_map}
@@ -21,26 +21,27 @@ use Rattle.arimaa_step.proofs.FourthSteps.{ends, fourth_less}
 use Rattle.arimaa_step.proofs.LeavingOut.{IsLess, less_parts}
 use Rattle.arimaa_step.proofs.ThirdSteps.{IsTurned, is_turned}
 use Rattle.arimaa_results.specs.Ahead.{states_by, next_states, given_by, brings_now, brings}
-use Rattle.arimaa_results.specs.LastSteps.{gives_in_order, thirds_in_order, brings_in_order, brings_last}
+use Rattle.arimaa_results.specs.LastSteps.{gives_in_order, next_in_order, brings_in_order, brings_first, brings_last}
 use Rattle.arimaa_results.specs.Layering.{keeps, planes_after, layer, brought_from}
+use Rattle.arimaa_results.specs.NextStates.{next_pairs}
 use Rattle.arimaa_results.proofs.Bringing.{brings-suc, brings-zero}
-use Rattle.arimaa_results.proofs.InOrder.{Made, in_order}
+use Rattle.arimaa_results.proofs.InOrder.{Made, in_order, start_in_order}
 use Rattle.arimaa_results.proofs.Keeping.{flat_map-among, one_layer}
-use Rattle.arimaa_results.proofs.Layers.{In-next, layer-of, layer-suc, decoded, decoded-of, opens}
+use Rattle.arimaa_results.proofs.Layers.{In-next, layer-of, layer-suc, decoded, decoded-of, start_gives, opens}
 use Rattle.arimaa_results.proofs.StatePairs.{states_by-is}
 
--- ---- third steps, each with what its state gives
+-- ---- next steps, each with what its state gives
 
 module _ {R : Type 0} (given : TurnState → List R) where
-  abbrev pub Thirds : TurnState → List R
-  Thirds st = flat_map (λ t. flat_map given (states_by st t)) (candidates st.board)
+  abbrev pub Nexts : TurnState → List R
+  Nexts st = flat_map (λ t. flat_map given (states_by st t)) (candidates st.board)
 
-  pub thirds-is : (st : TurnState) → Thirds st ≡ flat_map given (next_states st)
+  pub nexts-is : (st : TurnState) → Nexts st ≡ flat_map given (next_states st)
   unfolding next_states
-  thirds-is st = sym (flat_map-flat_map given (states_by st) (candidates st.board))
+  nexts-is st = sym (flat_map-flat_map given (states_by st) (candidates st.board))
 
   abbrev After : Made → List R
-  After u = Thirds (next_state u.0 u.1)
+  After u = Nexts (next_state u.0 u.1)
 
   -- what a state that is made gives
   ok_gives : (st : TurnState) (s : Step) → is_ok (next_answer st s) ≡ true → flat_map given (states_by st s) ≡ flat_map given (next_state st s ∷ [])
@@ -50,8 +51,8 @@ module _ {R : Type 0} (given : TurnState → List R) where
   none_gives st s stuck = ap (flat_map given) (states_by-is st s ∙ ap (λ v. cond v (next_state st s ∷ []) []) stuck)
 
   -- what is left out stands already
-  pub third_less : (st : TurnState) (s : Step) (before : List Made) → settle st.board ≡ st.board → st.count < 3 → ((t : Step) → In t (candidates st.board) → is_ok (next_answer st t) ≡ true → t.from < s.from → In (st, t) before) → IsLess (flat_map After before) (After (st, s)) (thirds_in_order given st s)
-  third_less st s before calm few made =
+  pub next_less : (st : TurnState) (s : Step) (before : List Made) → settle st.board ≡ st.board → st.count < 3 → ((t : Step) → In t (candidates st.board) → is_ok (next_answer st t) ≡ true → t.from < s.from → In (st, t) before) → IsLess (flat_map After before) (After (st, s)) (next_in_order given st s)
+  next_less st s before calm few made =
       less_parts (flat_map After before) (λ t. flat_map given (states_by S t)) (gives_in_order given st s) (candidates S.board) (λ t i. by_test t (comes_turned st s t) refl) where
         S : TurnState
         S = next_state st s
@@ -97,53 +98,73 @@ module _ (barred : List Position) where
               | false ↦ refl
             ]
 
-  thirds-bring : (st : TurnState) → Thirds (brings barred 0) st ≡ brings barred 1 st
-  thirds-bring st = thirds-is (brings barred 0) st ∙ sym (brings-suc barred 0 st)
+  nexts-bring : (st : TurnState) → Nexts (brings barred 0) st ≡ brings barred 1 st
+  nexts-bring st = nexts-is (brings barred 0) st ∙ sym (brings-suc barred 0 st)
 
   module _ (p : Position) (long : length p.board ≡ 64) where
     abbrev D : List ℕ → TurnState
     D w = state_in_planes p w
 
     -- what all steps after the states of a layer bring about is what one more step does from the next layer
-    next_brings : (all : TurnState → List Position) → ((st : TurnState) → all st ≡ brings barred 1 st) → (n : ℕ) → suc n < 4 → (q : List Position)
-        → firsts same_position q (flat_map (λ w. flat_map all (next_states (D w))) (layer p (suc n))) ≡ firsts same_position q (brought_from barred p (suc (suc n)))
+    next_brings : (all : TurnState → List Position) → ((st : TurnState) → all st ≡ brings barred 1 st) → (n : ℕ) → n < 4 → (q : List Position)
+        → firsts same_position q (flat_map (λ w. flat_map all (next_states (D w))) (layer p n)) ≡ firsts same_position q (brought_from barred p (suc n))
     next_brings all is n low q =
-        ap (firsts same_position q) (flat_map-agree (λ w. flat_map all (next_states (D w))) (λ w. brings barred 2 (D w)) (layer p (suc n)) (λ w. flat_map-agree all (brings barred 1) (next_states (D w)) is ∙ sym (brings-suc barred 1 (D w))))
-        ∙ (sym (one_layer same_words same_words-Decides same_position same_position-Decides (λ w. brings barred 1 (D w)) (λ w. brings barred 2 (D w)) (planes_after p) q (layer p (suc n)) (opens p long barred (suc n) 1 low))
-        ∙ ap (λ l. firsts same_position q (flat_map (λ w. brings barred 1 (D w)) l)) (sym (layer-suc p (suc n))))
+        ap (firsts same_position q) (flat_map-agree (λ w. flat_map all (next_states (D w))) (λ w. brings barred 2 (D w)) (layer p n) (λ w. flat_map-agree all (brings barred 1) (next_states (D w)) is ∙ sym (brings-suc barred 1 (D w))))
+        ∙ (sym (one_layer same_words same_words-Decides same_position same_position-Decides (λ w. brings barred 1 (D w)) (λ w. brings barred 2 (D w)) (planes_after p) q (layer p n) (opens p long barred n 1 low))
+        ∙ ap (λ l. firsts same_position q (flat_map (λ w. brings barred 1 (D w)) l)) (sym (layer-suc p n)))
 
     -- what the last steps in order bring about adds what all last steps would
     pub fourth_in_order : (q : List Position) → firsts same_position q (brings_last (brings_in_order barred) p (layer p 3) (layer p 2)) ≡ firsts same_position q (brought_from barred p 3)
     fourth_in_order q =
         in_order Fourths (brings_in_order barred) p long same_position same_position-Decides (fourth_less G none) 1 (omega arith) q
-        ∙ next_brings Fourths fourths-bring 1 (omega arith) q
+        ∙ next_brings Fourths fourths-bring 2 (omega arith) q
 
     -- what the third steps in order bring about adds what all third steps would
-    pub third_in_order : (q : List Position) → firsts same_position q (brings_last (thirds_in_order (brings barred 0)) p (layer p 2) (layer p 1)) ≡ firsts same_position q (brought_from barred p 2)
+    pub third_in_order : (q : List Position) → firsts same_position q (brings_last (next_in_order (brings barred 0)) p (layer p 2) (layer p 1)) ≡ firsts same_position q (brought_from barred p 2)
     third_in_order q =
-        in_order (Thirds (brings barred 0)) (thirds_in_order (brings barred 0)) p long same_position same_position-Decides (third_less (brings barred 0)) 0 (omega arith) q
-        ∙ next_brings (Thirds (brings barred 0)) thirds-bring 0 (omega arith) q
+        in_order (Nexts (brings barred 0)) (next_in_order (brings barred 0)) p long same_position same_position-Decides (next_less (brings barred 0)) 0 (omega arith) q
+        ∙ next_brings (Nexts (brings barred 0)) nexts-bring 1 (omega arith) q
+
+    -- so do the second steps in order, where no trap of the start board is due
+    pub second_in_order : settle p.board ≡ p.board → (q : List Position)
+        → firsts same_position q (brings_first (next_in_order (brings barred 0)) (state_of p []) (layer p 1) (next_pairs (state_of p []))) ≡ firsts same_position q (brought_from barred p 1)
+    second_in_order calm q =
+        start_in_order (Nexts (brings barred 0)) (next_in_order (brings barred 0)) p long same_position same_position-Decides (next_less (brings barred 0)) calm q
+        ∙ (ap (firsts same_position q) (sym (start_gives p long (λ st. flat_map (Nexts (brings barred 0)) (next_states st))))
+        ∙ next_brings (Nexts (brings barred 0)) nexts-bring 0 (omega arith) q)
 
 -- ---- the states that are kept
 
 module _ (p : Position) (long : length p.board ≡ 64) where
-  -- the states after those of the first layer
-  words_open : (w : List ℕ) → In w (layer p 1) → flat_map (Thirds keeps) (next_states (state_in_planes p w)) ≡ flat_map (planes_after p) (planes_after p w)
+  -- the states after those of a layer
+  words_open : (n : ℕ) → n < 3 → (w : List ℕ) → In w (layer p n) → flat_map (Nexts keeps) (next_states (state_in_planes p w)) ≡ flat_map (planes_after p) (planes_after p w)
   unfolding planes_after
-  words_open w i =
-      let of = layer-of p long 1 (omega arith) w i in
-      let state : state_in_planes p w ≡ state_of p of.0 = decoded-of p long 1 w of (omega arith) in
-      let same : (st : TurnState) → In st (next_states (state_in_planes p w)) → Thirds keeps st ≡ flat_map (planes_after p) (keeps st) = λ st j.
+  words_open n low w i =
+      let of = layer-of p long n (omega arith) w i in
+      let state : state_in_planes p w ≡ state_of p of.0 = decoded-of p long n w of (omega arith) in
+      let same : (st : TurnState) → In st (next_states (state_in_planes p w)) → Nexts keeps st ≡ flat_map (planes_after p) (keeps st) = λ st j.
       let one = In-next p of.0 st (omega (arith, of.1)) (subst (λ (s : TurnState). In st (next_states s)) state j) in
       let back : state_in_planes p (state_planes st) ≡ st = ap (λ s. state_in_planes p (state_planes s)) one.1 ∙ (decoded p long (one.0 ∷ of.0) (omega (arith, of.1)) ∙ sym one.1) in
-      thirds-is keeps st ∙ (ap (λ s. flat_map keeps (next_states s)) (sym back) ∙ sym (append-nil (planes_after p (state_planes st)))) in
-      flat_map-among (Thirds keeps) (λ st. flat_map (planes_after p) (keeps st)) (next_states (state_in_planes p w)) same
+      nexts-is keeps st ∙ (ap (λ s. flat_map keeps (next_states s)) (sym back) ∙ sym (append-nil (planes_after p (state_planes st)))) in
+      flat_map-among (Nexts keeps) (λ st. flat_map (planes_after p) (keeps st)) (next_states (state_in_planes p w)) same
       ∙ sym (flat_map-flat_map (planes_after p) keeps (next_states (state_in_planes p w)))
 
+  -- what all steps after the states of a layer keep is the layer after the next
+  next_keeps : (n : ℕ) → n < 3 → firsts same_words [] (flat_map (λ w. flat_map (Nexts keeps) (next_states (state_in_planes p w))) (layer p n)) ≡ layer p (suc (suc n))
+  next_keeps n low =
+      sym (one_layer same_words same_words-Decides same_words same_words-Decides (planes_after p) (λ w. flat_map (Nexts keeps) (next_states (state_in_planes p w))) (planes_after p) [] (layer p n) (words_open n low))
+      ∙ (ap (λ l. firsts same_words [] (flat_map (planes_after p) l)) (sym (layer-suc p n))
+      ∙ sym (layer-suc p (suc n)))
+
   -- the third steps in order make the states of the third layer
-  pub thirds_kept : firsts same_words [] (brings_last (thirds_in_order keeps) p (layer p 2) (layer p 1)) ≡ layer p 3
+  pub thirds_kept : firsts same_words [] (brings_last (next_in_order keeps) p (layer p 2) (layer p 1)) ≡ layer p 3
   thirds_kept =
-      in_order (Thirds keeps) (thirds_in_order keeps) p long same_words same_words-Decides (third_less keeps) 0 (omega arith) []
-      ∙ (sym (one_layer same_words same_words-Decides same_words same_words-Decides (planes_after p) (λ w. flat_map (Thirds keeps) (next_states (state_in_planes p w))) (planes_after p) [] (layer p 1) words_open)
-      ∙ (ap (λ l. firsts same_words [] (flat_map (planes_after p) l)) (sym (layer-suc p 1))
-      ∙ sym (layer-suc p 2)))
+      in_order (Nexts keeps) (next_in_order keeps) p long same_words same_words-Decides (next_less keeps) 0 (omega arith) []
+      ∙ next_keeps 1 (omega arith)
+
+  -- the second steps in order make those of the second layer, where no trap of the start board is due
+  pub seconds_kept : settle p.board ≡ p.board → firsts same_words [] (brings_first (next_in_order keeps) (state_of p []) (layer p 1) (next_pairs (state_of p []))) ≡ layer p 2
+  seconds_kept calm =
+      start_in_order (Nexts keeps) (next_in_order keeps) p long same_words same_words-Decides (next_less keeps) calm []
+      ∙ (ap (firsts same_words []) (sym (start_gives p long (λ st. flat_map (Nexts keeps) (next_states st))))
+      ∙ next_keeps 0 (omega arith))

@@ -1,4 +1,4 @@
--- The last step of a turn, in order: where two single steps may be made in either order, only the one that comes first
+-- The next step and the last one of a turn, in order: where two single steps may be made in either order, only the one that comes first
 -- in the order of steps is.
 use Rattle.std.specs.Prelude.{ℕ, Bool, false, ◌&&◌, List, [], ◌∷◌, ◌++◌, is_ok, if◌then◌else◌}
 use Rattle.std.specs.List.{flat_map}
@@ -40,9 +40,9 @@ left_after (w ∷ kept) st = if same_words w (state_planes st) then kept else w 
 abbrev pub gives_in_order : {R : Type 0} → (TurnState → List R) → TurnState → Step → Step → List R
 gives_in_order given st s t = if comes_turned st s t then [] else flat_map given (states_by (next_state st s) t)
 
--- what the states give that a third step makes after s, in order
-abbrev pub thirds_in_order : {R : Type 0} → (TurnState → List R) → TurnState → Step → List R
-thirds_in_order given st s = flat_map (gives_in_order given st s) (candidates (next_state st s).board)
+-- what the states give that the next step makes after s, in order
+abbrev pub next_in_order : {R : Type 0} → (TurnState → List R) → TurnState → Step → List R
+next_in_order given st s = flat_map (gives_in_order given st s) (candidates (next_state st s).board)
 
 -- what is placed after some steps, each with the state that it makes, where that is the next kept one
 unfoldable pub brings_first : {R : Type 0} → (TurnState → Step → List R) → TurnState → List (List ℕ) → List (Step × TurnState) → List R

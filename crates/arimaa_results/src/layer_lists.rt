@@ -1,9 +1,9 @@
 //! The results of a position, by layers of turn states: each distinct state is extended once.
-ghost use Rattle.std.specs.Prelude.{◌≡◌, ℕ, suc, true, false, ◌+◌, ◌-◌, ◌<◌, ◌≤◌, ◌∷◌, ◌++◌, List, [], length, is_ok, is_err, is_some, IsOk, IfOk, IfErr, IfSome, None, OnOk, OnErr, IsTrue, ◌^◌, drop};
+ghost use Rattle.std.specs.Prelude.{◌≡◌, ◌↔◌, ℕ, suc, true, false, ◌+◌, ◌-◌, ◌<◌, ◌≤◌, ◌∷◌, ◌++◌, List, [], length, is_ok, is_err, is_some, IsOk, IfOk, IfErr, IfSome, None, OnOk, OnErr, IsTrue, ◌^◌, drop};
 ghost use Rattle.std.specs.List.{flat_map};
 ghost use Rattle.arimaa_model.specs.Results.{next};
 ghost use Rattle.arimaa_region.specs.Segments.{live_of, below_top, top};
-ghost use Rattle.arimaa_board.specs.Board.{at};
+ghost use Rattle.arimaa_board.specs.Board.{at, settle};
 ghost use Rattle.arimaa_step.specs.declared.state.TurnState.{TurnState};
 ghost use Rattle.arimaa_step.specs.Next.{next_answer, next_state};
 ghost use Rattle.arimaa_step.specs.State.{state_of};
@@ -11,7 +11,7 @@ ghost use Rattle.arimaa_results.specs.Adding.{IsFilled};
 ghost use Rattle.arimaa_results.specs.Ahead.{next_states, brings};
 ghost use Rattle.arimaa_results.specs.Distinct.{distinct_layers};
 ghost use Rattle.arimaa_region.specs.Same.{same_words};
-ghost use Rattle.arimaa_results.specs.LastSteps.{is_next, brings_in_order, thirds_in_order, brings_first, left_of_kept};
+ghost use Rattle.arimaa_results.specs.LastSteps.{is_next, brings_in_order, next_in_order, brings_first, left_of_kept};
 ghost use Rattle.arimaa_results.specs.NextStates.{next_gives, next_pairs};
 ghost use Rattle.arimaa_results.specs.Layering.{keeps, planes_after, layer, layers_to, brings_next, brought_from, IsKept};
 ghost use Rattle.arimaa_results.specs.Listed.{IsListed, is_won_by, may_end};
@@ -320,10 +320,10 @@ fn last_steps(
     Ok(())
 }
 
-// Takes the states that third steps make, in order, from the states that a step makes of this one, each where it is kept
-// at the next place before the end of the layers below: that is its first list of steps. The answer is the place after
-// those.
-fn third_steps_from(
+// Takes the states that the next steps make, in order, from the states that a step makes of this one, each where it is
+// kept at the next place before the end of the layers below: that is its first list of steps. The answer is the place
+// after those.
+fn next_steps_from(
     state: &TurnState,
     first: u32,
     end: u32,
@@ -334,10 +334,10 @@ fn third_steps_from(
     requires open_layer { 0 < length region.old.work.segments }
     requires end { end ≡ length (live_of (below_top region.old.work.segments)) }
     ensures filled { IsFilled region.old region.new (is_ok result) (is_room result)
-        (brings_first (thirds_in_order (brings barred.now 0)) state.now
+        (brings_first (next_in_order (brings barred.now 0)) state.now
         (drop first (live_of (below_top region.old.work.segments))) (next_pairs state.now)) }
     ensures kept { IsKept region.old.work region.new.work (is_ok result) (is_work result)
-        (brings_first (thirds_in_order keeps) state.now
+        (brings_first (next_in_order keeps) state.now
         (drop first (live_of (below_top region.old.work.segments))) (next_pairs state.now)) }
     ensures next { IfOk result (λ next. drop next (live_of (below_top region.old.work.segments))
         ≡ left_of_kept (drop first (live_of (below_top region.old.work.segments)))
@@ -353,6 +353,48 @@ fn third_steps_from(
         }
     }
     Ok(next)
+}
+
+// Whether no trap of a board is due: each piece on a trap has a friend beside it.
+fn is_settled(board: &Board) -> bool
+    ensures { IsTrue result ↔ (settle board.now ≡ board.now) }
+{
+    board.settled() == *board
+}
+
+// Takes the states that a second step makes, in order where no trap of the start board is due. Where one is, all second
+// steps are taken: a first step may take a piece off a trap that it doesn't touch. So they are of at most four states,
+// which costs less.
+fn second_layer(
+    p: &Position,
+    until: Until,
+    barred: &Barred,
+    region: &mut Region,
+) -> Result<(), Stop>
+    requires open { 0 < length region.old.segments }
+    requires layers { region.old.work.segments ≡ layers_to p.now 1 }
+    ensures filled { IsFilled region.old region.new (is_ok result) (is_room result)
+        (brought_from barred.now p.now 1) }
+    ensures room { region.new.work.room ≡ region.old.work.room }
+    ensures kept { OnOk result (region.new.work.segments ≡ layers_to p.now 2) }
+    ensures work { is_work result ≡ true
+        → region.old.work.room < length (live_of (layers_to p.now 2)) }
+    ensures won { is_won result ≡ true
+        → may_end until p.now.side (top region.new.segments) ≡ true }
+{
+    let _corner = p.board.at(Square::C3);
+    let end = region.work_len();
+    if end <= 4 || !is_settled(&p.board) {
+        return next_layer(p, 0, 0, until, barred, region);
+    }
+    region.work_layer();
+    let start = TurnState::start(p);
+    let from = region.live();
+    next_steps_from(&start, 0, end, barred, region)?;
+    if ends_list(until, &p.board, p.side, from, region) {
+        return Err(Stop::Won);
+    }
+    Ok(())
 }
 
 // Takes the states that a third step makes, in order. The states after two steps, which are kept from the place `second`
@@ -387,7 +429,7 @@ fn third_layer(
     for place in 0..second {
         let state = TurnState::from_planes(p, region.work_get(place));
         let from = region.live();
-        next = third_steps_from(&state, next, end, barred, region)?;
+        next = next_steps_from(&state, next, end, barred, region)?;
         if ends_list(until, state.board(), p.side, from, region) {
             return Err(Stop::Won);
         }
@@ -413,7 +455,7 @@ fn fill_layers(p: &Position, until: Until, barred: &Barred, region: &mut Region)
         return Err(Stop::Won);
     }
     let second = region.work_len();
-    next_layer(p, 0, 0, until, barred, region)?;
+    second_layer(p, until, barred, region)?;
     let third = region.work_len();
     third_layer(p, second, until, barred, region)?;
     last_steps(p, second, third, until, barred, region)

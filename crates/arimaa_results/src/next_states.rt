@@ -5,7 +5,7 @@ ghost use Rattle.std.specs.Option.{option_to_list};
 ghost use Rattle.arimaa_board.specs.declared.position.Position.{Position};
 ghost use Rattle.arimaa_step.specs.declared.state.TurnState.{TurnState};
 ghost use Rattle.arimaa_step.specs.Next.{next_answer, next_state};
-ghost use Rattle.arimaa_results.specs.LastSteps.{thirds_in_order};
+ghost use Rattle.arimaa_results.specs.LastSteps.{next_in_order};
 ghost use Rattle.arimaa_board.specs.Masks.{is_in};
 ghost use Rattle.arimaa_board.specs.declared.square.Dir.TheVariants.{North, East, South, West};
 ghost use Rattle.arimaa_results.specs.NextStates.{AreAllAccepted, IsFirstDirection, IsFirstTaken, IsStepTaken, has_step, last_of, next_gives, next_pairs, same_dir};
@@ -134,9 +134,9 @@ impl<'a> NextStates<'a> {
         requires accepted { IsOk (next_answer before.now step.now) }
         requires after { after.now ≡ next_state before.now step.now }
         ensures positions { (given : TurnState → List Position)
-            → flat_map (next_gives given) result ≡ thirds_in_order given before.now step.now }
+            → flat_map (next_gives given) result ≡ next_in_order given before.now step.now }
         ensures words { (given : TurnState → List (List ℕ))
-            → flat_map (next_gives given) result ≡ thirds_in_order given before.now step.now }
+            → flat_map (next_gives given) result ≡ next_in_order given before.now step.now }
     {
         NextStates {
             state: after,

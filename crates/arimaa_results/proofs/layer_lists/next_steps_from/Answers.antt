@@ -11,14 +11,14 @@ use Rattle.arimaa_step.specs.Next.{next_state}
 use Rattle.arimaa_results.specs.Adding.{IsFilled}
 use Rattle.arimaa_results.specs.Ahead.{brings}
 use Rattle.arimaa_results.specs.Layering.{keeps, IsKept}
-use Rattle.arimaa_results.specs.LastSteps.{is_next, thirds_in_order, brings_first, left_of_kept}
+use Rattle.arimaa_results.specs.LastSteps.{is_next, next_in_order, brings_first, left_of_kept}
 use Rattle.arimaa_results.specs.NextStates.{next_pairs, pairs_left}
 use Rattle.arimaa_results.specs.Stopped.{for_won, is_room, is_work, is_won}
 use Rattle.arimaa_results.proofs.Adding.{Leads, leads_start, leads_ok, leads_err, leads_end}
 use Rattle.arimaa_results.proofs.Kept.{below_live, next_brings, next_left, other_brings, other_left, none_brings, none_left}
 use Rattle.arimaa_results.proofs.Stage.{raised-room, raised-work}
 use Rattle.arimaa_results.proofs.StatePairs.{all_pairs, all_accepted}
-use Rattle.arimaa_results.proofs.layer_lists.third_steps_from.Goals as goal
+use Rattle.arimaa_results.proofs.layer_lists.next_steps_from.Goals as goal
 
 pub kept_after-requires-clause-end : goal.kept_after-requires-clause-end
 kept_after-requires-clause-end c =
@@ -34,8 +34,8 @@ loop-step-init c =
     let a = c.accepted-steps.result in
     let all = all_pairs c.args.state.now a c.accepted-steps.ensures in
     record {
-      filled = leads_start same_position c.args.region.now.room c.args.region.now.segments (ap (brings_first (thirds_in_order (brings c.args.barred.now 0)) c.args.state.now kept) all);
-      kept = leads_start same_words c.args.region.now.work.room c.args.region.now.work.segments (ap (brings_first (thirds_in_order keeps) c.args.state.now kept) all);
+      filled = leads_start same_position c.args.region.now.room c.args.region.now.segments (ap (brings_first (next_in_order (brings c.args.barred.now 0)) c.args.state.now kept) all);
+      kept = leads_start same_words c.args.region.now.work.room c.args.region.now.work.segments (ap (brings_first (next_in_order keeps) c.args.state.now kept) all);
       left = ap (left_of_kept kept) all;
       accepted = all_accepted c.args.state.now a c.accepted-steps.ensures;
     }
@@ -44,8 +44,8 @@ pub loop-step-preserved-in-Some-kept_after : goal.loop-step-preserved-in-Some-ke
 loop-step-preserved-in-Some-kept_after c =
     let st = c.args.state.now in
     let kept = live_of (below_top c.args.region.now.work.segments) in
-    let placed : TurnState → Step → List Position = thirds_in_order (brings c.args.barred.now 0) in
-    let words : TurnState → Step → List (List ℕ) = thirds_in_order keeps in
+    let placed : TurnState → Step → List Position = next_in_order (brings c.args.barred.now 0) in
+    let words : TurnState → Step → List (List ℕ) = next_in_order keeps in
     let i = c.loop-step.next in
     let s = c.in-Some.step in
     let after = next_state st s in
@@ -71,8 +71,8 @@ pub loop-step-preserved : goal.loop-step-preserved
 loop-step-preserved c =
     let st = c.args.state.now in
     let kept = live_of (below_top c.args.region.now.work.segments) in
-    let placed : TurnState → Step → List Position = thirds_in_order (brings c.args.barred.now 0) in
-    let words : TurnState → Step → List (List ℕ) = thirds_in_order keeps in
+    let placed : TurnState → Step → List Position = next_in_order (brings c.args.barred.now 0) in
+    let words : TurnState → Step → List (List ℕ) = next_in_order keeps in
     let i = c.loop-step.next in
     let s = c.in-Some.step in
     let after = next_state st s in
@@ -92,8 +92,8 @@ pub returns-in_err-take_all-clause-filled : goal.returns-in_err-take_all-clause-
 returns-in_err-take_all-clause-filled c =
     let st = c.args.state.now in
     let kept = live_of (below_top c.args.region.now.work.segments) in
-    let placed : TurnState → Step → List Position = thirds_in_order (brings c.args.barred.now 0) in
-    let words : TurnState → Step → List (List ℕ) = thirds_in_order keeps in
+    let placed : TurnState → Step → List Position = next_in_order (brings c.args.barred.now 0) in
+    let words : TurnState → Step → List (List ℕ) = next_in_order keeps in
     let i = c.loop-step.next in
     let s = c.in-Some.step in
     let after = next_state st s in
@@ -113,8 +113,8 @@ pub returns-in_err-take_all-clause-kept : goal.returns-in_err-take_all-clause-ke
 returns-in_err-take_all-clause-kept c =
     let st = c.args.state.now in
     let kept = live_of (below_top c.args.region.now.work.segments) in
-    let placed : TurnState → Step → List Position = thirds_in_order (brings c.args.barred.now 0) in
-    let words : TurnState → Step → List (List ℕ) = thirds_in_order keeps in
+    let placed : TurnState → Step → List Position = next_in_order (brings c.args.barred.now 0) in
+    let words : TurnState → Step → List (List ℕ) = next_in_order keeps in
     let i = c.loop-step.next in
     let s = c.in-Some.step in
     let after = next_state st s in
@@ -133,12 +133,12 @@ returns-in_err-take_all-clause-kept c =
 pub returns-clause-filled : goal.returns-clause-filled
 returns-clause-filled c =
     let kept = live_of (below_top c.args.region.now.work.segments) in
-    leads_end same_position (none_brings (thirds_in_order (brings c.args.barred.now 0)) c.args.state.now (drop c.loop-step.next kept) (pairs_left c.args.state.now c.loop-step.steps) c.in_default.ensures.none) c.loop-step.invariant.filled
+    leads_end same_position (none_brings (next_in_order (brings c.args.barred.now 0)) c.args.state.now (drop c.loop-step.next kept) (pairs_left c.args.state.now c.loop-step.steps) c.in_default.ensures.none) c.loop-step.invariant.filled
 
 pub returns-clause-kept : goal.returns-clause-kept
 returns-clause-kept c =
     let kept = live_of (below_top c.args.region.now.work.segments) in
-    leads_end same_words (none_brings (thirds_in_order keeps) c.args.state.now (drop c.loop-step.next kept) (pairs_left c.args.state.now c.loop-step.steps) c.in_default.ensures.none) c.loop-step.invariant.kept
+    leads_end same_words (none_brings (next_in_order keeps) c.args.state.now (drop c.loop-step.next kept) (pairs_left c.args.state.now c.loop-step.steps) c.in_default.ensures.none) c.loop-step.invariant.kept
 
 pub returns-clause-next : goal.returns-clause-next
 returns-clause-next c =

@@ -1,4 +1,4 @@
--- What the third steps in order give, by the masks of the steps that are accepted in order.
+-- What the next steps in order give, by the masks of the steps that are accepted in order.
 use Rattle.std.proofs.Common.{◌≡◌, ℕ, ◌<◌, ◌&&◌, List, [], ◌∷◌, Bool, true, false, cond, Option, None, Some, refl, sym, ◌∙◌, ap}
 use Rattle.std.specs.Prelude.{is_ok, not}
 use Rattle.std.specs.List.{flat_map, range_with_len}
@@ -18,7 +18,7 @@ use Rattle.arimaa_step.specs.Accepted.{accepts, accepts_content, mask_towards}
 use Rattle.arimaa_step.specs.Commuting.{comes_turned, AreAcceptedInOrder}
 use Rattle.arimaa_step.specs.Next.{next_answer, next_state}
 use Rattle.arimaa_results.specs.Ahead.{states_by}
-use Rattle.arimaa_results.specs.LastSteps.{gives_in_order, thirds_in_order}
+use Rattle.arimaa_results.specs.LastSteps.{gives_in_order, next_in_order}
 use Rattle.arimaa_results.specs.NextStates.{AreAllAccepted, next_gives, pairs_by, pairs_of_content, has_step, pairs_from, pairs_left}
 use Rattle.arimaa_results.proofs.FirstSteps.{in_mask}
 use Rattle.arimaa_results.proofs.StatePairs.{pairs_by-is, states_by-is, same_numbers}
@@ -68,9 +68,9 @@ module _ (before : TurnState) (s : Step) (a : AcceptedSteps) (are : AreAcceptedI
     each_content n (Some p) here small = λ i. flat_map (λ d. each_piece n d p here small i) directions
 
     -- what the states after those steps give is what the third steps in order do
-    pub thirds-in_order : flat_map (next_gives given) (pairs_left S a) ≡ thirds_in_order given before s
+    pub gives-in_order : flat_map (next_gives given) (pairs_left S a) ≡ next_in_order given before s
     unfolding pairs_left
-    thirds-in_order =
+    gives-in_order =
         flat_map-flat_map (next_gives given) (pairs_from S a) (range_with_len 0 64)
         ∙ (same_numbers (λ n. flat_map (next_gives given) (pairs_from S a n)) (λ n. flat_map (gives_in_order given before s) (steps_of n (at S.board n))) 64 0
         (λ n _ small. flat_map-flat_map (next_gives given) (λ d. cond (has_step a n d) (pairs_of_content S n d (at S.board n)) []) directions ∙ each_content n (at S.board n) refl small)
