@@ -116,6 +116,15 @@ fn is_any_won(side: Color, first: u32, region: &Region) -> bool
     false
 }
 
+// Whether a side has a rabbit on a board that two steps may bring to its goal row.
+fn has_rabbit_near(board: &Board, side: Color) -> bool {
+    let near = match side {
+        Color::Gold => 0xffff_ff00_0000_0000,
+        Color::Silver => 0x00ff_ffff,
+    };
+    board.rabbits(side) & near != 0
+}
+
 // Whether the list may end with the positions from a place of the top segment on, to which at most
 // two steps of a side lead from a board. They are looked through only where it has a rabbit there that
 // may reach its goal row by those.
@@ -123,13 +132,9 @@ fn ends_list(until: Until, board: &Board, side: Color, first: u32, region: &Regi
     requires { length (live_of (below_top region.now.segments)) ≤ first }
     ensures { IsTrue result → may_end until side (top region.now.segments) ≡ true }
 {
-    let near = match side {
-        Color::Gold => 0xffff_ff00_0000_0000,
-        Color::Silver => 0x00ff_ffff,
-    };
     match until {
         Until::All => false,
-        Until::Win => board.rabbits(side) & near != 0 && is_any_won(side, first, region),
+        Until::Win => has_rabbit_near(board, side) && is_any_won(side, first, region),
     }
 }
 
@@ -362,9 +367,20 @@ fn is_settled(board: &Board) -> bool
     board.settled() == *board
 }
 
-// Takes the states that a second step makes, in order where no trap of the start board is due. Where one is, all second
-// steps are taken: a first step may take a piece off a trap that it doesn't touch. So they are of at most four states,
-// which costs less.
+// Whether second steps are made in order after so many first ones: only where no trap of the start board is due, since a
+// first step takes a piece off such a trap wherever it goes. All are made where that costs less: after at most four first
+// steps, and where the list may end after one of them.
+fn are_in_order(p: &Position, until: Until, firsts: u32) -> bool
+    ensures { IsTrue result → settle p.now.board ≡ p.now.board }
+{
+    let may_end = match until {
+        Until::All => false,
+        Until::Win => has_rabbit_near(&p.board, p.side),
+    };
+    firsts > 4 && !may_end && is_settled(&p.board)
+}
+
+// Takes the states that a second step makes, in order where that may be and pays.
 fn second_layer(
     p: &Position,
     until: Until,
@@ -384,7 +400,7 @@ fn second_layer(
 {
     let _corner = p.board.at(Square::C3);
     let end = region.work_len();
-    if end <= 4 || !is_settled(&p.board) {
+    if !are_in_order(p, until, end) {
         return next_layer(p, 0, 0, until, barred, region);
     }
     region.work_layer();

@@ -1,9 +1,9 @@
-use Rattle.std.proofs.Common.{append-nil, true≢false, ◌≡◌, ℕ, List, [], ◌++◌, length, Err, refl, sym, ◌∙◌, ap, subst, arith}
+use Rattle.std.proofs.Common.{append-nil, true≢false, ◌≡◌, ℕ, List, [], ◌++◌, Err, refl, sym, ◌∙◌, ap, subst, arith}
 use Rattle.std.specs.Prelude.{is_ok}
 use Rattle.std.proofs.lemmas.Result.{err_from_is_err_and}
 use Rattle.arimaa_board.specs.declared.position.Position.{Position}
 use Rattle.arimaa_region.specs.Same.{same_position}
-use Rattle.arimaa_region.specs.Segments.{Stacked, live_of}
+use Rattle.arimaa_region.specs.Segments.{Stacked}
 use Rattle.arimaa_results.specs.Adding.{IsFilled}
 use Rattle.arimaa_results.specs.Layering.{brought_from}
 use Rattle.arimaa_results.specs.Stopped.{is_room, is_work, is_won}

@@ -57,7 +57,7 @@ pub returns-in_err-next_steps_from-clause-filled : goal.returns-in_err-next_step
 returns-in_err-next_steps_from-clause-filled c =
     let p = c.args.p.now in
     let old = c.args.region.now in
-    let calm : settle p.board ≡ p.board = c.if-not-is_settled.ensures.0 refl in
+    let calm : settle p.board ≡ p.board = c.if-not-are_in_order.ensures refl in
     let opened = opened_is old c.work_layer.new.self p c.work_layer.ensures c.requires.layers in
     let raised = err_from_is_err_and c.from_residual.result c.from_residual.ensures.1 in
     raised-room same_position c.next_steps_from.result c.from_residual.result _ raised.0 c.in_err-next_steps_from.was raised.1 raised.2
@@ -67,7 +67,7 @@ pub returns-in_err-next_steps_from-clause-work : goal.returns-in_err-next_steps_
 returns-in_err-next_steps_from-clause-work c =
     let p = c.args.p.now in
     let old = c.args.region.now in
-    let calm : settle p.board ≡ p.board = c.if-not-is_settled.ensures.0 refl in
+    let calm : settle p.board ≡ p.board = c.if-not-are_in_order.ensures refl in
     let opened = opened_is old c.work_layer.new.self p c.work_layer.ensures c.requires.layers in
     let raised = err_from_is_err_and c.from_residual.result c.from_residual.ensures.1 in
     let same : is_work c.next_steps_from.result ≡ is_work c.from_residual.result = ap is_work c.in_err-next_steps_from.was ∙ sym (ap is_work raised.1 ∙ ap for_work raised.2) in
@@ -78,7 +78,7 @@ pub returns-then-ends_list-clause-filled : goal.returns-then-ends_list-clause-fi
 returns-then-ends_list-clause-filled c =
     let p = c.args.p.now in
     let old = c.args.region.now in
-    let calm : settle p.board ≡ p.board = c.if-not-is_settled.ensures.0 refl in
+    let calm : settle p.board ≡ p.board = c.if-not-are_in_order.ensures refl in
     let opened = opened_is old c.work_layer.new.self p c.work_layer.ensures c.requires.layers in
     let all : IsFilled old c.next_steps_from.new.region (is_ok c.next_steps_from.result) (is_room c.next_steps_from.result) (brought_from c.args.barred.now p 1) =
     filled p old c.work_layer.new.self c.next_steps_from.new.region c.start-start.result c.start-start.ensures opened c.args.barred.now c.at-corner.ensures.size calm c.next_steps_from.ensures.filled in
@@ -88,7 +88,7 @@ pub returns-clause-filled : goal.returns-clause-filled
 returns-clause-filled c =
     let p = c.args.p.now in
     let old = c.args.region.now in
-    let calm : settle p.board ≡ p.board = c.if-not-is_settled.ensures.0 refl in
+    let calm : settle p.board ≡ p.board = c.if-not-are_in_order.ensures refl in
     let opened = opened_is old c.work_layer.new.self p c.work_layer.ensures c.requires.layers in
     subst (λ o. IsFilled old c.next_steps_from.new.region (is_ok o) (is_room o) (brought_from c.args.barred.now p 1)) c.in_ok-next_steps_from.was
     (filled p old c.work_layer.new.self c.next_steps_from.new.region c.start-start.result c.start-start.ensures opened c.args.barred.now c.at-corner.ensures.size calm c.next_steps_from.ensures.filled)
@@ -97,7 +97,7 @@ pub returns-clause-kept : goal.returns-clause-kept
 returns-clause-kept c =
     let p = c.args.p.now in
     let old = c.args.region.now in
-    let calm : settle p.board ≡ p.board = c.if-not-is_settled.ensures.0 refl in
+    let calm : settle p.board ≡ p.board = c.if-not-are_in_order.ensures refl in
     let opened = opened_is old c.work_layer.new.self p c.work_layer.ensures c.requires.layers in
     stage-kept p old.work.room 1 c.work_layer.new.self.work c.next_steps_from.new.region.work (ap (λ (h : Region). h.work) opened) (seconds_kept p c.at-corner.ensures.size calm)
     (kept p old c.work_layer.new.self c.next_steps_from.new.region c.start-start.result c.start-start.ensures opened c.next_steps_from.ensures.kept) (ap is_ok c.in_ok-next_steps_from.was)
