@@ -1,5 +1,5 @@
--- The next step and the last one of a turn, in order: where two single steps may be made in either order, only the one that comes first
--- in the order of steps is.
+-- The next step and the last one of a turn, in order: where two single steps may be made in either
+-- order, only the one that comes first in the order of steps is.
 use Rattle.std.specs.Prelude.{ℕ, Bool, false, ◌&&◌, List, [], ◌∷◌, ◌++◌, is_ok, if◌then◌else◌}
 use Rattle.std.specs.List.{flat_map}
 use Rattle.arimaa_board.specs.declared.position.Position.{Position}

@@ -325,9 +325,9 @@ fn last_steps(
     Ok(())
 }
 
-// Takes the states that the next steps make, in order, from the states that a step makes of this one, each where it is
-// kept at the next place before the end of the layers below: that is its first list of steps. The answer is the place
-// after those.
+// Takes the states that the next steps make, in order, from the states that a step makes of this
+// one, each where it is kept at the next place before the end of the layers below: that is its
+// first list of steps. The answer is the place after those.
 fn next_steps_from(
     state: &TurnState,
     first: u32,
@@ -367,9 +367,9 @@ fn is_settled(board: &Board) -> bool
     board.settled() == *board
 }
 
-// Whether second steps are made in order after so many first ones: only where no trap of the start board is due, since a
-// first step takes a piece off such a trap wherever it goes. All are made where that costs less: after at most four first
-// steps, and where the list may end after one of them.
+// Whether second steps are made in order after so many first ones: only where no trap of the start
+// board is due, since a first step takes a piece off such a trap wherever it goes. All are made
+// where that costs less: after at most four first steps, and where the list may end after one.
 fn are_in_order(p: &Position, until: Until, firsts: u32) -> bool
     ensures { IsTrue result → settle p.now.board ≡ p.now.board }
 {
