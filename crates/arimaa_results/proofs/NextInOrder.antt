@@ -67,7 +67,7 @@ module _ (before : TurnState) (s : Step) (a : AcceptedSteps) (are : AreAcceptedI
       nothing false = refl
     each_content n (Some p) here small = λ i. flat_map (λ d. each_piece n d p here small i) directions
 
-    -- what the states after those steps give is what the third steps in order do
+    -- what the states after those steps give is what the next steps in order do
     pub gives-in_order : flat_map (next_gives given) (pairs_left S a) ≡ next_in_order given before s
     unfolding pairs_left
     gives-in_order =
