@@ -2,6 +2,7 @@ pub mod LinePlaces
 pub mod RecordPlaces
 pub mod GamePlaces
 pub mod Telling
+pub mod Blocks
 pub mod ShareLaws
 pub mod WordForms
 pub mod AnswerLaws

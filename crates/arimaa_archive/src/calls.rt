@@ -52,7 +52,7 @@ fn answer<R: Threads + Sync>(
     let told = judge_many(rt, alloc, bytes, &parts, workers, &NoGate)?;
     Ok(Reply {
         status: Status::Done,
-        text: report(alloc, &told)?,
+        text: report(rt, alloc, &told, workers)?,
     })
 }
 

@@ -1,12 +1,14 @@
 //! The text of the report.
-ghost use Rattle.std.specs.Prelude.{◌≡◌, ◌+◌, ◌++◌, ◌<◌, ◌^◌, IfOk, OnOk, count_by};
+ghost use Rattle.std.specs.Prelude.{◌≡◌, ◌+◌, ◌++◌, ◌<◌, ◌≤◌, ◌^◌, IfOk, OnOk, count_by, length};
 ghost use Rattle.std.specs.Fmt.{decimal};
 ghost use Rattle.arimaa_archive.specs.Told.{is_bad, is_lawful};
-ghost use Rattle.arimaa_archive.specs.Report.{text_of_counts, text_of_record, text_of_report, text_of_stray};
+ghost use Rattle.arimaa_archive.specs.Report.{text_of_counts, text_of_record, text_of_records, text_of_report, text_of_stray};
 
 use crate::told::Told;
 use itoa::Buffer;
 use std::alloc::{AllocError, Global};
+use std::thread;
+use std::thread::Threads;
 
 // Adds a word and a number.
 fn push_count(text: &mut Vec<u8>, word: &[u8], number: u64) -> Result<(), AllocError>
@@ -55,14 +57,56 @@ fn push_counts(text: &mut Vec<u8>, told: &[Told]) -> Result<(), AllocError>
     Ok(())
 }
 
-// The report: the records in order, counted from 1, and then how many there are.
-pub(crate) fn report(alloc: Global, told: &[Told]) -> Result<Vec<u8>, AllocError>
-    ensures { IfOk result (λ text. text.items ≡ text_of_report told.now) }
+// The texts of records, one after another, the first of which has this number.
+fn records_text(alloc: Global, first: u64, told: &[Told]) -> Result<Vec<u8>, AllocError>
+    requires { first + length told.now < 2 ^ 64 }
+    ensures { IfOk result (λ text. text.items ≡ text_of_records first told.now) }
 {
     let mut text = Vec::new(alloc);
     for (place, one) in told.iter().enumerate() {
-        push_record(alloc, &mut text, place as u64 + 1, one)?;
+        push_record(alloc, &mut text, first + place as u64, one)?;
     }
+    Ok(text)
+}
+
+// The texts of all records, counted from 1: those of each block of so many in a thread of its own.
+fn all_records_text<R: Threads + Sync>(
+    rt: &R,
+    alloc: Global,
+    told: &[Told],
+    size: usize,
+) -> Result<Vec<u8>, AllocError>
+    requires { 0 < size }
+    ensures { IfOk result (λ text. text.items ≡ text_of_records 1 told.now) }
+{
+    let block_text = |start: usize, block: &[Told]| -> Result<Vec<u8>, AllocError>
+        requires { start + 1 + length block.now < 2 ^ 64 }
+        ensures { IfOk result (λ text. text.items ≡ text_of_records (start + 1) block.entry.now) }
+    { records_text(alloc, start as u64 + 1, block) };
+    let texts = thread::map_chunks(rt, alloc, told, size, &block_text)?;
+    let mut text = Vec::new(alloc);
+    'joined: for place in 0..texts.len() {
+        match &texts[place] {
+            Ok(block) => text.extend_from_slice(block)?,
+            Err(_) => return Err(AllocError),
+        }
+    }
+    Ok(text)
+}
+
+// The report: the records in order, counted from 1, and then how many there are. So many workers
+// make its text.
+pub(crate) fn report<R: Threads + Sync>(
+    rt: &R,
+    alloc: Global,
+    told: &[Told],
+    workers: u32,
+) -> Result<Vec<u8>, AllocError>
+    requires { 1 ≤ workers }
+    ensures { IfOk result (λ text. text.items ≡ text_of_report told.now) }
+{
+    let size = told.len() / workers as usize + 1;
+    let mut text = all_records_text(rt, alloc, told, size)?;
     push_counts(&mut text, told)?;
     Ok(text)
 }
