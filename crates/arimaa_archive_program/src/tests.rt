@@ -3,7 +3,7 @@
 use arimaa_archive::{Part, judge_many, run_archive};
 use arimaa_outside::{CommandWords, MemSink, MemSource, Status};
 use arimaa_pool::MeetGate;
-use std::alloc::AllocError;
+use std::alloc::{AllocError, Global};
 use std::process::Abort;
 use std::test::Fail;
 use std::thread::Threads;
@@ -84,73 +84,100 @@ fn check<R: Threads + Sync + AllocGlobal + Abort>(
 
 const NONE: &str = "games 0 lawful 0 bad 0\n";
 
-// Words, inputs and the reports that are wanted.
-const REPORTS: [(&str, &str, &str); 10] = [
-    ("", THREE, THREE_REPORTED),
-    ("--workers 1", THREE, THREE_REPORTED),
-    ("--workers 2", THREE, THREE_REPORTED),
-    ("--workers 16", THREE, THREE_REPORTED),
+// Words that ask for workers, whose number changes no answer.
+const WORKERS: [&str; 6] = [
+    "",
+    "--workers 1",
+    "--workers 2",
+    "--workers 3",
+    "--workers 4",
+    "--workers 16",
+];
+
+// Inputs and the reports that are wanted.
+const REPORTS: [(&str, &str); 9] = [
+    (THREE, THREE_REPORTED),
     // no record
-    ("", "", NONE),
-    ("--workers 3", "# a comment\n\n \t \n", NONE),
+    ("", NONE),
+    ("# a comment\n\n \t \n", NONE),
+    // an empty record, and one with comments alone
+    (
+        "game\n",
+        "game 1\nlawful 0\nnext 1g\ngames 1 lawful 1 bad 0\n",
+    ),
+    (
+        "game\ngame\n\n# a comment\n",
+        "game 1\nlawful 0\nnext 1g\ngame 2\nlawful 0\nnext 1g\ngames 2 lawful 2 bad 0\n",
+    ),
     // lines are counted from 1 after the line `game`
     (
-        "",
         "# 1999\ngame\n\n# a comment\nhello\n",
         "game 1\nbad 3 1g text\ngames 1 lawful 0 bad 1\n",
     ),
     // carriage returns, and no line feed at the end
     (
-        "",
         "\r\ngame\r\n\r\nhello\r\ngame\r",
         "game 1\nbad 2 1g text\ngame 2\nlawful 0\nnext 1g\ngames 2 lawful 1 bad 1\n",
     ),
     // blanks round the word
     (
-        "",
         " \tgame \n",
         "game 1\nlawful 0\nnext 1g\ngames 1 lawful 1 bad 0\n",
     ),
     // other words begin no record
     (
-        "",
         "game\ngames\ngame\nGame\n",
         "game 1\nbad 1 1g text\ngame 2\nbad 1 1g text\ngames 2 lawful 0 bad 2\n",
     ),
 ];
 
-// Words, inputs, and the answer and the status that are wanted.
-const REFUSALS: [(&str, &str, &str, Status); 11] = [
-    ("", "hello", "no game 1\n", Status::Answered),
-    ("", "# 1999\n\n1g\ngame\n", "no game 3\n", Status::Answered),
-    (
-        "--workers 2",
-        "games\ngame\n",
-        "no game 1\n",
-        Status::Answered,
-    ),
-    ("--workers 0", "", "bad words\n", Status::Words),
-    ("--workers 17", "", "bad words\n", Status::Words),
-    ("--workers 04", "", "bad words\n", Status::Words),
-    ("--workers", "", "bad words\n", Status::Words),
-    ("--workers 4 4", "", "bad words\n", Status::Words),
-    ("--workers=4", "", "bad words\n", Status::Words),
-    ("--worker 4", "", "bad words\n", Status::Words),
-    ("4", "hello", "bad words\n", Status::Words),
+// Inputs with a line before the first record, and the answers that are wanted.
+const STRAYS: [(&str, &str); 5] = [
+    ("hello", "no game 1\n"),
+    ("# 1999\n\n1g\ngame\n", "no game 3\n"),
+    ("games\ngame\n", "no game 1\n"),
+    ("\r\n# 1999\r\n\r\nhello\r\ngame\r\n", "no game 4\n"),
+    ("1g\n1s\n2g\ngame\nhello\n", "no game 1\n"),
+];
+
+// Words that are not in form.
+const MISFORMED: [&str; 8] = [
+    "--workers 0",
+    "--workers 17",
+    "--workers 04",
+    "--workers",
+    "--workers 4 4",
+    "--workers=4",
+    "--worker 4",
+    "4",
 ];
 
 #[test]
 fn reports(rt: HostRuntime) -> Result<(), Fail> {
-    for (words, input, output) in REPORTS {
-        check(&rt, words, input, output, Status::Done)?;
+    for words in WORKERS {
+        for (input, output) in REPORTS {
+            check(&rt, words, input, output, Status::Done)?;
+        }
     }
     Ok(())
 }
 
 #[test]
-fn refusals(rt: HostRuntime) -> Result<(), Fail> {
-    for (words, input, output, status) in REFUSALS {
-        check(&rt, words, input, output, status)?;
+fn lines_before_the_first_record(rt: HostRuntime) -> Result<(), Fail> {
+    for words in WORKERS {
+        for (input, output) in STRAYS {
+            check(&rt, words, input, output, Status::Answered)?;
+        }
+    }
+    Ok(())
+}
+
+#[test]
+fn misformed_words(rt: HostRuntime) -> Result<(), Fail> {
+    for words in MISFORMED {
+        for input in ["", "hello"] {
+            check(&rt, words, input, "bad words\n", Status::Words)?;
+        }
     }
     Ok(())
 }
@@ -209,6 +236,72 @@ fn many_records(rt: HostRuntime) -> Result<(), Fail> {
         assert_eq!(rt; done.status, Status::Done, "{words}");
         assert_eq!(rt; done.output.as_slice(), wanted.as_slice(), "{words}");
     }
+    Ok(())
+}
+
+// An archive of 100,000 records: so many empty ones, and then a bad one, six times over. The bad
+// ones are 1, 25000, 25001, 50000, 99999 and 100000.
+const LARGE: [(usize, &str); 6] = [
+    (0, "game\nhello\n"),
+    (24_998, "game\n\n# a comment\nhello\n"),
+    (0, "game\n1g\n1s\n"),
+    (24_998, "game\r\n\r\n1g\r\n1s\r\n"),
+    (49_998, "game\ngames\n"),
+    (0, "game\nhello"),
+];
+
+// How many bytes the report on it has.
+const LARGE_SIZE: usize = 2_788_911;
+
+// Parts of that report, each after the number of bytes before it.
+const LARGE_REPORTED: [(usize, &str); 4] = [
+    (0, "game 1\nbad 1 1g text\ngame 2\nlawful 0\nnext 1g\n"),
+    (
+        688_835,
+        "game 24999\nlawful 0\nnext 1g\ngame 25000\nbad 3 1g text\n\
+            game 25001\nbad 2 1g after\ngame 25002\nlawful 0\nnext 1g\n",
+    ),
+    (
+        1_388_830,
+        "game 49999\nlawful 0\nnext 1g\ngame 50000\nbad 3 1g after\n\
+            game 50001\nlawful 0\nnext 1g\n",
+    ),
+    (
+        2_788_800,
+        "game 99998\nlawful 0\nnext 1g\ngame 99999\nbad 1 1g text\n\
+            game 100000\nbad 1 1g text\ngames 100000 lawful 99994 bad 6\n",
+    ),
+];
+
+// The bytes of that archive.
+fn large_archive(alloc: Global) -> Result<Vec<u8>, AllocError> {
+    let mut archive = Vec::new(alloc);
+    for (empty, bad) in LARGE {
+        for _ in 0..empty {
+            archive.extend_from_slice(b"game\n")?;
+        }
+        archive.extend_from_slice(bad.as_bytes())?;
+    }
+    Ok(archive)
+}
+
+#[test]
+fn a_hundred_thousand_records(rt: HostRuntime) -> Result<(), Fail> {
+    let archive = large_archive(rt.alloc())?;
+    let one = run(&rt, "--workers 1", &archive, SOUND)?;
+    assert_eq!(rt; one.status, Status::Done);
+    let report = one.output.as_slice();
+    assert_eq!(rt; report.len(), LARGE_SIZE);
+    for (place, part) in LARGE_REPORTED {
+        let rest = report.get(place..);
+        assert!(rt;
+            rest.is_some_and(|rest| rest.starts_with(part.as_bytes())),
+            "at {place}"
+        );
+    }
+    let four = run(&rt, "--workers 4", &archive, SOUND)?;
+    assert_eq!(rt; four.status, Status::Done);
+    assert!(rt; four.output.as_slice() == report);
     Ok(())
 }
 
