@@ -18,8 +18,8 @@ text_of_blocks first (suc size) (told ∷ later) =
     append_assoc (text_of_record first told) (text_of_records (first + 1) (take size later))
     (text_of_records (first + suc size) (drop size later))
     ∙ (ap (λ n. text_of_record first told
-        ++ (text_of_records (first + 1) (take size later) ++ text_of_records n (drop size later)))
-        number
+    ++ (text_of_records (first + 1) (take size later) ++ text_of_records n (drop size later)))
+    number
     ∙ ap (λ x. text_of_record first told ++ x) (text_of_blocks (first + 1) size later))
 
 -- the text of the blocks so far, with one more
@@ -32,14 +32,14 @@ one_block_more n size all text block so_far is =
     let next : (n + 1) * size ≡ n * size + size = omega arith in
     let number : n * size + 1 + size ≡ (n + 1) * size + 1 = omega arith in
     let left : drop size (drop (n * size) all) ≡ drop ((n + 1) * size) all =
-        drop-drop size (n * size) all ∙ ap (λ k. drop k all) (sym next) in
+    drop-drop size (n * size) all ∙ ap (λ k. drop k all) (sym next) in
     let both : block ++ text_of_records ((n + 1) * size + 1) (drop ((n + 1) * size) all)
-        ≡ text_of_records (n * size + 1) (drop (n * size) all) =
-        ap (λ x. x ++ text_of_records ((n + 1) * size + 1) (drop ((n + 1) * size) all)) is
-        ∙ (ap (λ x. text_of_records (n * size + 1) (take size (drop (n * size) all)) ++ x)
-            (sym (ap (λ k. text_of_records k (drop size (drop (n * size) all))) number
-            ∙ ap (text_of_records ((n + 1) * size + 1)) left))
-        ∙ text_of_blocks (n * size + 1) size (drop (n * size) all)) in
+    ≡ text_of_records (n * size + 1) (drop (n * size) all) =
+    ap (λ x. x ++ text_of_records ((n + 1) * size + 1) (drop ((n + 1) * size) all)) is
+    ∙ (ap (λ x. text_of_records (n * size + 1) (take size (drop (n * size) all)) ++ x)
+    (sym (ap (λ k. text_of_records k (drop size (drop (n * size) all))) number
+    ∙ ap (text_of_records ((n + 1) * size + 1)) left))
+    ∙ text_of_blocks (n * size + 1) size (drop (n * size) all)) in
     append_assoc text block (text_of_records ((n + 1) * size + 1) (drop ((n + 1) * size) all))
     ∙ (ap (λ x. text ++ x) both ∙ so_far)
 
@@ -53,7 +53,7 @@ blocks_cover count len size some is =
     (λ (rest : 0 < len % size).
     let one_more : count ≡ len / size + 1 = omega arith in
     let wide : count * size ≡ len / size * size + 1 * size =
-        ap (λ n. n * size) one_more ∙ add-mul (len / size) 1 size in
+    ap (λ n. n * size) one_more ∙ add-mul (len / size) 1 size in
     omega (arith, one-mul size))
     (λ none.
     let whole : count ≡ len / size = omega arith in
@@ -68,5 +68,5 @@ pub all_blocks : (n size : ℕ) (all : List Told) (text : List ℕ)
     → text ≡ text_of_records 1 all
 all_blocks n size all text so_far some count =
     let none : drop (n * size) all ≡ [] =
-        drop_all (n * size) all (blocks_cover n (length all) size some count) in
+    drop_all (n * size) all (blocks_cover n (length all) size some count) in
     sym (append-nil text) ∙ (ap (λ x. text ++ text_of_records (n * size + 1) x) (sym none) ∙ so_far)

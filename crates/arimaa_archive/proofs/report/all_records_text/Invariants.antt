@@ -6,4 +6,4 @@ use Rattle.arimaa_archive.proofs.report.all_records_text.Given as goal
 abbrev pub invariant-joined : goal.invariant-joined
 invariant-joined g l =
     l.text.items ++ text_of_records (l.place * l.size + 1) (drop (l.place * l.size) l.told)
-        ≡ text_of_records 1 l.told
+    ≡ text_of_records 1 l.told

@@ -6,4 +6,4 @@ use Rattle.arimaa_archive.proofs.report.records_text.Given as goal
 abbrev pub invariant-loop-place : goal.invariant-loop-place
 invariant-loop-place l =
     l.text.items ++ text_of_records (l.first + l.place) (drop l.place l.told)
-        ≡ text_of_records l.first l.told
+    ≡ text_of_records l.first l.told
