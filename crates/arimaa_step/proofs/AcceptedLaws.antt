@@ -2,6 +2,7 @@
 use Rattle.std.proofs.Common.{◌≡◌, ℕ, ◌<◌, ◌≤◌, ◌&&◌, Bool, true, false, cond, Option, None, Some, refl, sym, ◌∙◌, ap, arith, eq-eqb}
 use Rattle.std.specs.Prelude.{◌||◌, not, nat_le, is_some, is_none, is_ok}
 use Rattle.std.proofs.lemmas.Bool.Decides.{nat_tests}
+use Rattle.std.proofs.Math.Bool.{or-false, and_comm, and-true}
 use Rattle.arimaa_board.specs.declared.piece.Color.{Color}
 use Rattle.arimaa_board.specs.declared.piece.Color.TheVariants.{Gold, Silver}
 use Rattle.arimaa_board.specs.declared.piece.Kind.{Kind}
@@ -26,16 +27,11 @@ use Rattle.arimaa_step.specs.Accepted.{AreAccepted, AreEnding, accepts, accepts_
 
 -- laws of tests
 pub and_true : (x : Bool) → (x && true) ≡ x
-and_true true = refl
-and_true false = refl
+and_true = and-true
 
 pub and_false : (x : Bool) → (x && false) ≡ false
 and_false true = refl
 and_false false = refl
-
-or_false : (x : Bool) → (x || false) ≡ x
-or_false true = refl
-or_false false = refl
 
 not_turned : (x y g : Bool) → g ≡ y → (x && not y) ≡ (x && not g)
 not_turned x y g e = ap (λ v. x && not v) (sym e)
@@ -58,7 +54,7 @@ turned_or false false false = refl
 any_move : (f c a h u w pu pl : Bool) → pu ≡ (f && u) → pl ≡ (f && w) → (f && ((c && a || c && h) || (u || w))) ≡ ((c && (f && a) || (pu || pl)) || c && (f && h))
 any_move false false a h u w pu pl e d = rw (e, d) refl
 any_move false true a h u w pu pl e d = rw (e, d) refl
-any_move true false a h u w pu pl e d = rw (e, d) (sym (or_false (u || w)))
+any_move true false a h u w pu pl e d = rw (e, d) (sym (or-false (u || w)))
 any_move true true a h u w pu pl e d = rw (e, d) (turned_or a h (u || w))
 
 any_end : (f c a u w pu pl : Bool) → pu ≡ (f && u) → pl ≡ (f && w) → (f && (c && a || (u || w))) ≡ (c && (f && a) || (pu || pl))
@@ -115,18 +111,12 @@ rabbit_of Silver Horse = refl
 rabbit_of Silver Camel = refl
 rabbit_of Silver Elephant = refl
 
-turned_and : (x y : Bool) → (x && y) ≡ (y && x)
-turned_and true true = refl
-turned_and true false = refl
-turned_and false true = refl
-turned_and false false = refl
-
 -- what the masks say of a single step is what its test says
 going_is : (side d : Color) (k : Kind) (dir : Dir) (z : Bool) → ((same_color side d && not z) && not (is_back side dir && holds (piece_of side Rabbit) (Some (piece_of d k)))) ≡ ((same_color d side && not z) && not (is_rabbit k && is_back d dir))
-going_is Gold Gold k dir z = not_turned (not z) (is_back Gold dir && holds (piece_of Gold Rabbit) (Some (piece_of Gold k))) (is_rabbit k && is_back Gold dir) (turned_and (is_rabbit k) (is_back Gold dir) ∙ ap (λ v. is_back Gold dir && v) (sym (rabbit_of Gold k)))
+going_is Gold Gold k dir z = not_turned (not z) (is_back Gold dir && holds (piece_of Gold Rabbit) (Some (piece_of Gold k))) (is_rabbit k && is_back Gold dir) (and_comm (is_rabbit k) (is_back Gold dir) ∙ ap (λ v. is_back Gold dir && v) (sym (rabbit_of Gold k)))
 going_is Gold Silver k dir z = refl
 going_is Silver Gold k dir z = refl
-going_is Silver Silver k dir z = not_turned (not z) (is_back Silver dir && holds (piece_of Silver Rabbit) (Some (piece_of Silver k))) (is_rabbit k && is_back Silver dir) (turned_and (is_rabbit k) (is_back Silver dir) ∙ ap (λ v. is_back Silver dir && v) (sym (rabbit_of Silver k)))
+going_is Silver Silver k dir z = not_turned (not z) (is_back Silver dir && holds (piece_of Silver Rabbit) (Some (piece_of Silver k))) (is_rabbit k && is_back Silver dir) (and_comm (is_rabbit k) (is_back Silver dir) ∙ ap (λ v. is_back Silver dir && v) (sym (rabbit_of Silver k)))
 
 cut_and : (c x y : Bool) → ((c && x) && not y) ≡ (c && (x && not y))
 cut_and true x y = refl

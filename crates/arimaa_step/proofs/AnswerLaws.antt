@@ -5,7 +5,6 @@ use Rattle.std.proofs.lemmas.Bool.{or_cases, and_parts, true≢false}
 use Rattle.arimaa_board.specs.declared.piece.Piece.{Piece}
 use Rattle.arimaa_board.specs.declared.board.Board.{Board}
 use Rattle.arimaa_board.specs.declared.position.Step.{Step}
-use Rattle.arimaa_board.specs.Board.{moved, settle}
 use Rattle.arimaa_model.specs.declared.fault.StepFault.TheVariants as fault
 use Rattle.arimaa_model.specs.Faults.{unless, rule_of}
 use Rattle.arimaa_model.specs.Marks.{removed_by}
@@ -66,11 +65,6 @@ free_there b (Some t) h = refl
 pub fits_there : (b : Board) (s : Step) → fits b s ≡ true → is_some (target s) ≡ true
 unfolding fits
 fits_there b s h = free_there b (target s) (and_parts _ _ h).1
-
--- the board after a step, by the square that it enters
-pub after_is : (b : Board) (s : Step) (to : ℕ) → target s ≡ Some to → after b s ≡ settle (moved b s.from to)
-unfolding after
-after_is b s to is = rw is refl
 
 module _ (st : TurnState) (s : Step) where
   -- whether a step is accepted after fewer than four

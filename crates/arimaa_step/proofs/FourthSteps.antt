@@ -1,8 +1,8 @@
 -- Fourth steps that commute with the third and come before it bring about nothing new.
-use Rattle.std.proofs.Common.{◌≡◌, ℕ, zero, suc, ◌+◌, ◌<◌, ◌≤◌, ◌&&◌, List, [], ◌∷◌, ◌++◌, Bool, true, false, cond, ◌⊎◌, inl, inr, ⊎_elim, Some, Result, Ok, Err, refl, sym, ◌∙◌, ap, subst, arith, append_assoc, append-nil}
+use Rattle.std.proofs.Common.{◌≡◌, ℕ, ◌+◌, ◌<◌, ◌≤◌, ◌&&◌, List, [], ◌∷◌, ◌++◌, Bool, true, false, cond, ◌⊎◌, inl, inr, ⊎_elim, Some, Result, Ok, Err, refl, sym, ◌∙◌, ap, subst, arith, append_assoc, append-nil}
 use Rattle.std.specs.Prelude.{is_ok, nat_lt}
 use Rattle.std.specs.List.{flat_map, range_with_len}
-use Rattle.std.proofs.lemmas.Bool.{cases_eq, and_parts, ltb-true, true≢false}
+use Rattle.std.proofs.lemmas.Bool.{and_parts, ltb-true, true≢false}
 use Rattle.arimaa_board.specs.declared.piece.Piece.{Piece}
 use Rattle.arimaa_board.specs.declared.square.Dir.{Dir}
 use Rattle.arimaa_board.specs.declared.square.Dir.TheVariants.{North, East, South, West}
@@ -16,6 +16,7 @@ use Rattle.arimaa_model.specs.Results.{step_of, squares}
 use Rattle.arimaa_model.specs.Plain.{steps_of, candidates}
 use Rattle.arimaa_model.proofs.Members.{In, In-append, In-left, In-right, flat_map-In}
 use Rattle.arimaa_model.proofs.Pushers.{held_piece, after_settled}
+use Rattle.arimaa_model.proofs.Listed.{In-range}
 use Rattle.arimaa_step.specs.declared.state.TurnState.{TurnState}
 use Rattle.arimaa_step.specs.Next.{next_state, next_answer, state_end, goes_alone}
 use Rattle.arimaa_step.specs.Commuting.{commutes, commutes_before}
@@ -25,11 +26,6 @@ use Rattle.arimaa_step.proofs.LeavingOut.{IsLess, AreLess, less_parts, left_out}
 use Rattle.arimaa_step.proofs.StepOrder.{Rising, candidates-rising, stands_before}
 
 -- ---- a step that fits is one of the steps of a board
-
-in_range : (m n k : ℕ) → m ≤ k → k < m + n → In k (range_with_len m n)
-in_range m zero k low high = absurd (omega arith)
-in_range m (suc n) k low high =
-    ⊎_elim (λ (e : k ≡ m). inl e) (λ apart. inr (in_range (m + 1) n k (omega arith) (omega arith))) (cases_eq k m)
 
 in_steps : (d : Dir) (n : ℕ) (p : Piece) → In (step_of n d p) (steps_of n (Some p))
 in_steps North n p = inl refl
@@ -41,7 +37,7 @@ pub goes_in : (b : Board) (s : Step) → Goes b s → In s (candidates b)
 unfolding candidates squares fits
 goes_in b s go =
     let here : at b s.from ≡ Some s.piece = held_piece s.piece (at b s.from) (and_parts (holds s.piece (at b s.from)) (is_free b (target s)) go.fit).0 in
-    flat_map-In (λ k. steps_of k (at b k)) s s.from (range_with_len 0 64) (in_range 0 64 s.from (omega arith) (omega (arith, go.from_inside)))
+    flat_map-In (λ k. steps_of k (at b k)) s s.from (range_with_len 0 64) (In-range 0 64 s.from (omega arith) (omega (arith, go.from_inside)))
     (subst (λ o. In s (steps_of s.from o)) (sym here) (in_steps s.dir s.from s.piece))
 
 -- ---- what ends a turn

@@ -16,7 +16,7 @@ use Rattle.arimaa_model.specs.Frozen.{is_frozen, beats, passes_at}
 use Rattle.arimaa_model.specs.Moves.{fits, is_free, target, after, is_own, goes_back, is_single, is_half, has_pusher, may_pull}
 use Rattle.arimaa_model.specs.Plain.{candidates}
 use Rattle.arimaa_model.proofs.Members.{In}
-use Rattle.arimaa_model.proofs.Pushers.{list_any-mono, kept_some, no_friend, after_is, after_settled, held_piece}
+use Rattle.arimaa_model.proofs.Pushers.{list_any-mono, kept_some, no_friend, after_is, after_settled, held_piece, at-settle}
 use Rattle.arimaa_model.proofs.Shades.{across}
 use Rattle.arimaa_step.specs.declared.state.TurnState.{TurnState}
 use Rattle.arimaa_step.specs.State.{left_if}
@@ -25,7 +25,7 @@ use Rattle.arimaa_step.specs.Commuting.{commutes, commutes_before, moves_calmly,
 use Rattle.arimaa_step.proofs.AnswerLaws.{ok_parts, moves_fit}
 use Rattle.arimaa_step.proofs.FourthSteps.{goes_in}
 use Rattle.arimaa_step.proofs.Sameness.{color_is}
-use Rattle.arimaa_step.proofs.Turned.{single_goes, may_be_turned, whole, at-settled, at-moved}
+use Rattle.arimaa_step.proofs.Turned.{single_goes, may_be_turned, whole, at-moved}
 use Rattle.arimaa_step.proofs.TurnedEnds.{alone_is_ok, begins_none, or_no, pushes_none, no_push}
 
 -- the piece of a single step is one of the side
@@ -51,7 +51,7 @@ module _ (m : Board) (side : Color) (t : Step) (calm : settle m ≡ m) (single :
       let go = single_goes m side t calm single in
       let g = go.to in
       let f = t.from in
-      let stood : at (moved m f g) y ≡ Some q = kept_some (moved m f g) y (at (moved m f g) y) q (sym (at-settled (moved m f g) y small) ∙ (ap (λ b. at b y) (sym (after_is m t g go.is)) ∙ there)) in
+      let stood : at (moved m f g) y ≡ Some q = kept_some (moved m f g) y (at (moved m f g) y) q (sym (at-settle (moved m f g) y small) ∙ (ap (λ b. at b y) (sym (after_is m t g go.is)) ∙ there)) in
       let here : at m f ≡ Some t.piece = held_piece t.piece (at m f) (and_parts (holds t.piece (at m f)) (is_free m (target t)) go.fit).0 in
       by_square (y == g) (y == f) (sym (at-moved m f g y (whole m calm) go.from_inside go.to_inside) ∙ stood) here where
         by_square : (entered left : Bool) → cond entered (at m t.from) (cond left None (at m y)) ≡ Some q → at m t.from ≡ Some t.piece → at m y ≡ Some q

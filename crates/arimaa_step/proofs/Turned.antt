@@ -11,20 +11,16 @@ use Rattle.arimaa_board.specs.declared.board.Board.{Board}
 use Rattle.arimaa_board.specs.declared.position.Step.{Step}
 use Rattle.arimaa_board.specs.Square.{next_square, directions, is_trap}
 use Rattle.arimaa_board.specs.Board.{at, put, moved, kept, settle, has_beside, color_at, holds}
-use Rattle.arimaa_board.specs.BoardLaws.{same_boards, length-board_of, at-board_of, at-put, at-put_other, kept_off_traps}
+use Rattle.arimaa_board.specs.BoardLaws.{same_boards, length-board_of, at-put, at-put_other, kept_off_traps}
 use Rattle.arimaa_board.specs.Masks.{passes, is_beside}
 use Rattle.arimaa_model.specs.Frozen.{is_frozen, is_held, beats, passes_at}
 use Rattle.arimaa_model.specs.Moves.{target, enters, fits, is_free, after, is_own, goes_back, is_single}
 use Rattle.arimaa_model.proofs.Shades.{across}
 use Rattle.arimaa_model.proofs.Removals.{way_back}
-use Rattle.arimaa_model.proofs.Pushers.{settle_twice, after_is, free_square, after_settled, on_board, held_piece, clear, beside_traps}
+use Rattle.arimaa_model.proofs.Pushers.{settle_twice, after_is, free_square, after_settled, on_board, held_piece, clear, beside_traps, list_any-agree, at-settle}
 use Rattle.arimaa_step.specs.Commuting.{is_of, is_close, is_trap_of, in_zone, commutes, MayBeTurned}
 
 -- ---- tests of the four directions
-
-agree_any : (p q : Dir → Bool) (ds : List Dir) → ((d : Dir) → p d ≡ q d) → list_any p ds ≡ list_any q ds
-agree_any p q [] same = refl
-agree_any p q (d ∷ ds) same = λ i. same d i || agree_any p q ds same i
 
 none_any : (p : Dir → Bool) → list_any p directions ≡ false → (d : Dir) → p d ≡ false
 none_any p h North = (or_parts (p North) (p East || (p South || (p West || false))) h).0
@@ -90,10 +86,6 @@ pub whole : (b : Board) → settle b ≡ b → length b ≡ 64
 unfolding settle
 whole b calm = ap length (sym calm) ∙ length-board_of (λ s. kept b s (at b s))
 
-pub at-settled : (b : Board) (x : ℕ) → x < 64 → at (settle b) x ≡ kept b x (at b x)
-unfolding settle
-at-settled b x small = at-board_of (λ s. kept b s (at b s)) x small
-
 -- what stays on a square hangs on the squares beside it alone
 kept_agree : (b c : Board) (x : ℕ) (o : Option Piece) → (is_trap x ≡ true → (d : Dir) (y : ℕ) → next_square x d ≡ Some y → at b y ≡ at c y) → kept b x o ≡ kept c x o
 unfolding has_beside
@@ -102,7 +94,7 @@ kept_agree b c x (Some p) same =
     ⊎_elim
     (λ (trap : is_trap x ≡ true).
     let friends : has_beside b x p.color ≡ has_beside c x p.color =
-    agree_any (λ d. color_at b p.color (next_square x d)) (λ d. color_at c p.color (next_square x d)) directions (λ d. one trap d (next_square x d) refl) in
+    list_any-agree (λ d. color_at b p.color (next_square x d)) (λ d. color_at c p.color (next_square x d)) directions (λ d. one trap d (next_square x d) refl) in
     ap (λ v. cond (is_trap x && not v) None (Some p)) friends)
     (λ off. kept_off_traps b x (Some p) off ∙ sym (kept_off_traps c x (Some p) off))
     (cases_Bool (is_trap x)) where
@@ -116,10 +108,10 @@ moved_apart b f g x far = at-put_other (put b f None) g x (at b f) far.1 ∙ at-
 -- a piece that goes elsewhere leaves a square as it was
 pub untouched : (b : Board) (f g x : ℕ) → settle b ≡ b → x < 64 → IsClear f g x → at (settle (moved b f g)) x ≡ at b x
 untouched b f g x calm small far =
-    at-settled (moved b f g) x small
+    at-settle (moved b f g) x small
     ∙ (ap (kept (moved b f g) x) (moved_apart b f g x far.apart)
     ∙ (kept_agree (moved b f g) b x (at b x) (λ trap d y to. moved_apart b f g y (far.support trap d y to))
-    ∙ (sym (at-settled b x small) ∙ ap (λ c. at c x) calm)))
+    ∙ (sym (at-settle b x small) ∙ ap (λ c. at c x) calm)))
 
 pub at-moved : (b : Board) (f g x : ℕ) → length b ≡ 64 → f < 64 → g < 64 → at (moved b f g) x ≡ cond (x == g) (at b f) (cond (x == f) None (at b x))
 at-moved b f g x long in_f in_g =
@@ -131,10 +123,10 @@ at-moved b f g x long in_f in_g =
 -- boards that agree on the squares that matter give the same when a piece goes
 pub same_there : (b c : Board) (f g x : ℕ) → length b ≡ 64 → length c ≡ 64 → f < 64 → g < 64 → x < 64 → at b f ≡ at c f → at b x ≡ at c x → (is_trap x ≡ true → (d : Dir) (y : ℕ) → next_square x d ≡ Some y → at b y ≡ at c y) → at (settle (moved b f g)) x ≡ at (settle (moved c f g)) x
 same_there b c f g x long_b long_c in_f in_g small from here beside =
-    at-settled (moved b f g) x small
+    at-settle (moved b f g) x small
     ∙ (ap (kept (moved b f g) x) (agree x here)
     ∙ (kept_agree (moved b f g) (moved c f g) x (at (moved c f g) x) (λ trap d y to. agree y (beside trap d y to))
-    ∙ sym (at-settled (moved c f g) x small))) where
+    ∙ sym (at-settle (moved c f g) x small))) where
       agree : (y : ℕ) → at b y ≡ at c y → at (moved b f g) y ≡ at (moved c f g) y
       agree y same =
           at-moved b f g y long_b in_f in_g
@@ -286,8 +278,8 @@ module _ (m : Board) (f g : ℕ) (calm : settle m ≡ m) where
     same_held : (p : Piece) → is_held L t.from p ≡ is_held m t.from p
     unfolding is_held has_beside
     same_held p = λ i.
-        agree_any (λ e. passes_at L (λ q. beats q p) (next_square t.from e)) (λ e. passes_at m (λ q. beats q p) (next_square t.from e)) directions (λ e. same_test (λ q. beats q p) e (next_square t.from e) refl) i
-        && not (agree_any (λ e. color_at L p.color (next_square t.from e)) (λ e. color_at m p.color (next_square t.from e)) directions (λ e. same_color_at p.color e (next_square t.from e) refl) i)
+        list_any-agree (λ e. passes_at L (λ q. beats q p) (next_square t.from e)) (λ e. passes_at m (λ q. beats q p) (next_square t.from e)) directions (λ e. same_test (λ q. beats q p) e (next_square t.from e) refl) i
+        && not (list_any-agree (λ e. color_at L p.color (next_square t.from e)) (λ e. color_at m p.color (next_square t.from e)) directions (λ e. same_color_at p.color e (next_square t.from e) refl) i)
 
     same_frozen : is_frozen L t.from ≡ is_frozen m t.from
     same_frozen = by_content (at m t.from) refl where

@@ -1,7 +1,7 @@
 -- Single steps that commute: in either order they end a turn the same.
 use Rattle.std.proofs.Common.{◌≡◌, ℕ, ◌<◌, ◌==◌, ◌&&◌, Bool, true, false, cond, Option, None, Some, Ok, Err, refl, sym, ◌∙◌, arith, ne_eqb}
 use Rattle.std.specs.Prelude.{◌||◌, not, nat_le, is_ok}
-use Rattle.std.proofs.lemmas.Bool.{or_left, and_parts, and_from, both_ways}
+use Rattle.std.proofs.lemmas.Bool.{or_left, and_parts, and_from, both_ways, and_right}
 use Rattle.std.proofs.lemmas.Bool.Decides.{nat_tests}
 use Rattle.arimaa_board.specs.declared.piece.Color.{Color}
 use Rattle.arimaa_board.specs.declared.piece.Piece.{Piece}
@@ -62,10 +62,7 @@ far_from (Some left) o = enters left.0 o ≡ false
 
 pulls_none : (st : TurnState) (t : Step) (left : Option (ℕ × Piece)) → far_from left (target t) → completes_pull st t left ≡ false
 pulls_none st t None far = refl
-pulls_none st t (Some left) far = last (beats left.1 t.piece && fits st.board t) (enters left.0 (target t)) far where
-  last : (x y : Bool) → y ≡ false → (x && y) ≡ false
-  last true y e = e
-  last false y e = refl
+pulls_none st t (Some left) far = and_right (beats left.1 t.piece && fits st.board t) (enters left.0 (target t)) far
 
 pub pushes_none : (st : TurnState) (t : Step) (left : Option (ℕ × Piece)) → left ≡ None → completes_push st t left ≡ false
 pushes_none st t left none = rw none refl

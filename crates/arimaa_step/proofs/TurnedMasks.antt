@@ -19,9 +19,9 @@ use Rattle.arimaa_model.specs.Results.{step_of}
 use Rattle.arimaa_board.proofs.Beside.{upto_all}
 use Rattle.arimaa_board.proofs.MaskLaws.{and_mask, or_mask, not_mask, like_mask}
 use Rattle.std.proofs.lemmas.Bool.{eqb-true}
+use Rattle.std.proofs.Math.Bool.{and-true, and_comm}
 use Rattle.arimaa_step.specs.Commuting.{is_of, is_close, is_trap_of, in_zone, commutes, commutes_before, moves_calmly, goes_calmly, AreEarlier, AreOthers, AreAcceptedInOrder, AreEndingInOrder}
 use Rattle.arimaa_step.specs.Next.{next_state, goes_alone}
-use Rattle.arimaa_step.proofs.AcceptedLaws.{and_true}
 
 -- the ones below a place
 pub ones_before : (k : ℕ) → IsMaskOf (λ n. nat_lt n k) (2 ^ k - 1)
@@ -47,12 +47,7 @@ close_mask s own beside is_own is_near = or_mask (is_of s) (is_beside (is_of s))
 
 -- the mask of the traps on which it may take a piece off
 pub trap_mask : (s : Step) (close : ℕ) → IsMaskOf (is_close s) close → IsMaskOf (is_trap_of s) (bit_and close 39582420959232)
-trap_mask s close is = like_mask (λ n. is_close s n && is_trap n) (is_trap_of s) _ (λ n _. turned (is_close s n) (is_trap n)) (and_mask (is_close s) is_trap close 39582420959232 is traps_mask) where
-  turned : (x y : Bool) → (x && y) ≡ (y && x)
-  turned true true = refl
-  turned true false = refl
-  turned false true = refl
-  turned false false = refl
+trap_mask s close is = like_mask (λ n. is_close s n && is_trap n) (is_trap_of s) _ (λ n _. and_comm (is_close s n) (is_trap n)) (and_mask (is_close s) is_trap close 39582420959232 is traps_mask)
 
 -- the mask of the zone of a step
 pub zone_mask : (s : Step) (close beside : ℕ) → IsMaskOf (is_close s) close → IsMaskOf (is_beside (is_trap_of s)) beside → IsMaskOf (in_zone s) (bit_or close beside)
@@ -116,7 +111,7 @@ in_order_alone st s a alone h d p n small = subst (λ v. bit_at (mask_towards a 
 pub in_order_other : (st : TurnState) (s : Step) (a : AcceptedSteps) → goes_alone st s ≡ false → AreEnding (next_state st s) a → AreEndingInOrder st s a
 in_order_other st s a other h d p n small =
     subst (λ v. bit_at (mask_towards a d) n ≡ bit_of (ends_by (next_state st s) d n && not (v && commutes_before s (step_of n d p)))) (sym other)
-    (h d n small ∙ sym (ap bit_of (and_true (ends_by (next_state st s) d n))))
+    (h d n small ∙ sym (ap bit_of (and-true (ends_by (next_state st s) d n))))
 
 -- the steps that are accepted after a step, by whether that is a single one after which no pull may follow
 module _ (st : TurnState) (s : Step) (a : AcceptedSteps) where
@@ -138,4 +133,4 @@ module _ (st : TurnState) (s : Step) (a : AcceptedSteps) where
   pub in_order_all : goes_calmly st s ≡ false → AreAccepted S a → AreAcceptedInOrder st s a
   in_order_all other all d p n small =
       subst (λ v. bit_at (mask_towards a d) n ≡ bit_of (accepts S d n && not (v && (commutes_before s (step_of n d p) && moves_calmly S n)))) (sym other)
-      (all d n small ∙ sym (ap bit_of (and_true (accepts S d n))))
+      (all d n small ∙ sym (ap bit_of (and-true (accepts S d n))))
