@@ -6,7 +6,7 @@ use Rattle.std.specs.BTreeSet.{BTreeSet}
 use Rattle.std.specs.Prelude.{◌==◌}
 use Rattle.std.proofs.lemmas.List.{append-nil}
 use Rattle.std.specs.HashSet.{HashSet, contains}
-use Rattle.std.proofs.lemmas.Bool.{cases_Bool}
+use Rattle.std.proofs.lemmas.Bool.{cases_Bool, not-true, not-false}
 use Rattle.std.proofs.lemmas.List.Folds.{list_any-append}
 use Rattle.arimaa_board.specs.declared.position.Position.{Position}
 use Rattle.arimaa_model.specs.Results.{same_position, stands_in}
@@ -62,15 +62,6 @@ keys-stay keys more key here added k =
     let now : has_key more k ≡ has_key keys k = rw other at is in
     now)
     (cases_Bool (is_eq (order_of key k)))
-
--- a test is false where its opposite is true, and true where that is false
-is_not : (b : Bool) → not b ≡ true → b ≡ false
-is_not true e = sym e
-is_not false e = refl
-
-is_so : (b : Bool) → not b ≡ false → b ≡ true
-is_so true e = refl
-is_so false e = sym e
 
 module _ (h : List Position) (p : Position) (back : position_at (key_of p) ≡ p) where
   -- the set to which the key of p was added has the keys of the list with p at its end
@@ -189,10 +180,10 @@ module _ (h barred : List Position) (keys : BTreeSet Key) (again : BTreeMap Key 
     pub kept_first : added ≡ true → AreKept hs barred now again
     kept_first so =
         let items : hs ≡ h ++ p ∷ [] = rw so at positions in
-        subst (λ (xs : List Position). AreKept xs barred now again) (sym items) (kept_new now (is_not (has_key keys key) (sym is_added ∙ so)) updated)
+        subst (λ (xs : List Position). AreKept xs barred now again) (sym items) (kept_new now (not-true (has_key keys key) (sym is_added ∙ so)) updated)
 
     stood : added ≡ false → has_key keys key ≡ true
-    stood stands = is_so (has_key keys key) (sym is_added ∙ stands)
+    stood stands = not-false (has_key keys key) (sym is_added ∙ stands)
 
     unmoved : added ≡ false → hs ≡ h
     unmoved stands = rw stands at positions

@@ -4,6 +4,7 @@ use Rattle.std.specs.List.{slice_get, All}
 use Rattle.std.proofs.lemmas.Option.{get_or_from_slice_get, slice_get_within}
 use Rattle.arimaa_board.specs.declared.position.Position.{Position}
 use Rattle.arimaa_model.specs.Game.{present}
+pub use Rattle.arimaa_model.proofs.Present.{present-push}
 
 -- the present position is the last of the list
 pub present-last : (h : List Position) → present h ≡ slice_get h (length h - 1)
@@ -14,12 +15,6 @@ present-last (p ∷ q ∷ h) =
     let short : suc n - 1 ≡ n = omega arith in
     let long : suc (suc n) - 1 ≡ suc n = omega arith in
     present-last (q ∷ h) ∙ (ap (slice_get (q ∷ h)) short ∙ sym (ap (slice_get (p ∷ q ∷ h)) long))
-
--- a position that is added is the present one
-pub present-push : (h : List Position) (q : Position) → present (h ++ q ∷ []) ≡ Some q
-present-push [] q = refl
-present-push (p ∷ []) q = refl
-present-push (p ∷ r ∷ h) q = present-push (r ∷ h) q
 
 -- what holds of each position holds of the present one
 pub present-holds : (P : Position → Type 0) (h : List Position) (p : Position) → All P h → present h ≡ Some p → P p
