@@ -1,21 +1,15 @@
 -- Entries with their right marks.
-use Rattle.std.proofs.Common.{◌≡◌, ℕ, List, [], ◌∷◌, map, Option, None, Some, true, refl, ap}
+use Rattle.std.proofs.Common.{◌≡◌, ℕ, List, [], ◌∷◌, map, true, refl, ap}
 use Rattle.std.specs.List.{list_all}
 use Rattle.std.proofs.lemmas.Bool.{and_from}
-use Rattle.arimaa_board.specs.declared.piece.Piece.{Piece}
 use Rattle.arimaa_board.specs.declared.board.Board.{Board}
 use Rattle.arimaa_board.specs.declared.position.Step.{Step}
 use Rattle.arimaa_board.specs.Noted.{noted_turn, noted_marks}
 use Rattle.arimaa_model.specs.Moves.{after}
-use Rattle.arimaa_model.specs.Marks.{removed_by, same_mark, marks_right}
+use Rattle.arimaa_model.specs.Marks.{removed_by, marks_right}
 use Rattle.arimaa_model.specs.Strategies.{Planned}
+use Rattle.arimaa_model.proofs.MarkLaws.{same_mark-itself}
 use Rattle.arimaa_forced.specs.Entries.{planned_of, has_right_marks, steps_with_marks, entry_with_marks}
-use Rattle.std.proofs.Common.{eq-eqb}
-use Rattle.arimaa_board.specs.Piece.{code_of}
-
-same-itself : (m : Option (Piece × ℕ)) → same_mark m m ≡ true
-same-itself None = refl
-same-itself (Some l) = and_from _ _ (eq-eqb (code_of l.0) (code_of l.0) refl) (eq-eqb l.1 l.1 refl)
 
 steps-same : (b : Board) (steps : List Step) → noted_turn (steps_with_marks b steps) ≡ steps
 steps-same b [] = refl
@@ -24,7 +18,7 @@ steps-same b (s ∷ rest) = ap (λ l. s ∷ l) (steps-same (after b s) rest)
 marks-own : (b : Board) (steps : List Step) → marks_right b (noted_turn (steps_with_marks b steps)) (noted_marks (steps_with_marks b steps)) ≡ true
 unfolding marks_right
 marks-own b [] = refl
-marks-own b (s ∷ rest) = and_from _ _ (same-itself (removed_by b s)) (marks-own (after b s) rest)
+marks-own b (s ∷ rest) = and_from _ _ (same_mark-itself (removed_by b s)) (marks-own (after b s) rest)
 
 pub planned-written : (s : List Planned) → map planned_of (map entry_with_marks s) ≡ s
 planned-written [] = refl

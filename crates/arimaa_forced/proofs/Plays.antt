@@ -21,12 +21,7 @@ use Rattle.arimaa_model.proofs.Positions.{same_position-Decides, other_color-sam
 use Rattle.arimaa_model.proofs.Barring.{barred-twice, once-unbarred}
 use Rattle.arimaa_model.proofs.Ranking.{above-In, some-length}
 use Rattle.arimaa_model.proofs.Meeting.{side-own, side-other}
-
--- the position that was added last is the present one
-pub present-more : (h : List Position) (q : Position) → present (h ++ q ∷ []) ≡ Some q
-present-more [] q = refl
-present-more (p ∷ []) q = refl
-present-more (p ∷ x ∷ h) q = present-more (x ∷ h) q
+use Rattle.arimaa_model.proofs.Present.{present-push}
 
 pub ending-decided : (h : List Position) (p : Position) (e : Ending) → decided p ≡ Some e → ending_at h p ≡ Some e
 unfolding ending_at
@@ -163,7 +158,7 @@ module _ (a : Color) (barred : List Position) (s : List Planned) where
         result = r;
         turn = answer.turn;
         allowed = In-stands (lawful_at h p) r inside;
-        rest = rest (h ++ r ∷ []) r (record { last = present-more h r; ready = answer.ready; within = omega arith; ahead = ahead-more h p r m.ahead less });
+        rest = rest (h ++ r ∷ []) r (record { last = present-push h r; ready = answer.ready; within = omega arith; ahead = ahead-more h p r m.ahead less });
       })
 
   other-turn : (n : ℕ) (h : List Position) (p q : Position) → ((h' : List Position) (q' : Position) → Met h' q' n → WinsEveryPlay a s n h') → same_color p.side a ≡ false → decided p ≡ None → Met h p (suc n) → In q (lawful_at h p) → WinsEveryPlay a s (suc n) h
@@ -173,7 +168,7 @@ module _ (a : Color) (barred : List Position) (s : List Planned) where
       let reply = reply-ready p x other undecided m.ready (lawful-next h p x m.ahead (stands-In (lawful_at h p) x allowed)) in
       let lower = reply.1 in
       let within = m.within in
-      rest (h ++ x ∷ []) x (record { last = present-more h x; ready = reply.0; within = omega arith; ahead = ahead-more h p x m.ahead lower }))
+      rest (h ++ x ∷ []) x (record { last = present-push h x; ready = reply.0; within = omega arith; ahead = ahead-more h p x m.ahead lower }))
 
   -- the other side has no lawful turn
   other-stuck : (n : ℕ) (h : List Position) (p : Position) → present h ≡ Some p → same_color p.side a ≡ false → decided p ≡ None → lawful_at h p ≡ [] → WinsEveryPlay a s n h
