@@ -1,5 +1,6 @@
 -- What those know of true lines who do not look into them.
 use Rattle.std.proofs.Common.{Some, ◌↔◌, ◌∙◌, ◌≡◌, ◌≤◌, List, get_or, sym, ap, subst, arith, refl, inl, inr}
+use Rattle.std.proofs.lemmas.Option.{same_Some}
 use Rattle.arimaa_board.specs.Words.{squares_of, words_of}
 use Rattle.arimaa_board.specs.declared.piece.Color.{Color}
 use Rattle.arimaa_board.specs.declared.position.Position.{Position}
@@ -48,9 +49,6 @@ loses_none-same l k says j said same = keeps_all j k (says_once l j k said says)
 pub loses_none-said : (old new : Line) (k : Bounds) → IsLineOf new k → LosesNoBound old k → (j : Bounds) → IsLineOf new j → LosesNoBound old j
 loses_none-said old new k says keeps j said = subst (LosesNoBound old) (says_once new k j says said) keeps
 
-inside : (k j : Bounds) → Some k ≡ Some j → k ≡ j
-inside k j e = cc
-
 -- what is read by the words of a position is what the line says, and is on that position
 pub says_there : (l : Line) (p : Position) (b : Bounds) → IsLine l → 1 ≤ stamp_of l → board_words l ≡ words_of p.board → squares_of (words_of p.board) ≡ p.board
     → b ≡ bounds_of p.board (get_or l.words 4 0) → b.position.side ≡ p.side → Says l p b
@@ -64,4 +62,4 @@ says_there l p b (inr t) some same back is side =
 
 -- it says nothing else
 pub says_only : (l : Line) (p : Position) (b : Bounds) → Says l p b → (k : Bounds) → (Some b ≡ Some k) ↔ Says l p k
-says_only l p b says k = (λ e. subst (Says l p) (inside b k e) says, λ other. ap Some (says_once l b k says.0 other.0))
+says_only l p b says k = (λ e. subst (Says l p) (same_Some b k e) says, λ other. ap Some (says_once l b k says.0 other.0))
