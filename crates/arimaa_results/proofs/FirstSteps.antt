@@ -7,26 +7,15 @@ use Rattle.std.proofs.lemmas.Bool.{cases_eq}
 use Rattle.std.proofs.lemmas.Nat.Bits.{bit_at-lt, bit_at_or}
 use Rattle.arimaa_board.specs.declared.square.Dir.{Dir}
 use Rattle.arimaa_board.specs.declared.square.Dir.TheVariants.{North, East, South, West}
-use Rattle.arimaa_board.specs.Masks.{bit_of, IsMaskOf, is_in, first_in}
+use Rattle.arimaa_board.specs.Masks.{IsMaskOf, is_in, first_in}
+use Rattle.arimaa_board.proofs.Friends.{is_one}
+use Rattle.arimaa_board.proofs.Finds.{all_fail}
 use Rattle.arimaa_step.specs.declared.accepted.AcceptedSteps.{AcceptedSteps}
 use Rattle.arimaa_results.specs.NextStates.{has_step, same_dir, IsFirstDirection, IsTaken}
 
-bit_is : (b : ℕ) → b < 2 → b ≡ bit_of (b == 1)
-bit_is zero small = refl
-bit_is (suc zero) small = refl
-bit_is (suc (suc b)) small = absurd (omega arith)
-
--- a mask is that of its squares
-pub mask_of_itself : (mask : ℕ) → IsMaskOf (is_in mask) mask
-mask_of_itself mask n small = bit_is (bit_at mask n) (bit_at-lt mask n)
-
-one_back : (v : Bool) → (bit_of v == 1) ≡ v
-one_back true = refl
-one_back false = refl
-
 -- a square is in a mask exactly where it passes the test
 pub in_mask : (test : ℕ → Bool) (mask n : ℕ) → IsMaskOf test mask → n < 64 → is_in mask n ≡ test n
-in_mask test mask n is small = ap (λ b. b == 1) (is n small) ∙ one_back (test n)
+in_mask test mask n is small = ap (λ b. b == 1) (is n small) ∙ is_one (test n)
 
 max_is : (a b : ℕ) → a < 2 → b < 2 → (max a b == 1) ≡ (a == 1 || b == 1)
 max_is zero zero a_small b_small = refl
@@ -102,19 +91,11 @@ first_found t (suc k) a m found =
           }
     ] refl found
 
-none_found : (t : ℕ → Bool) (k a : ℕ) → find t (range_with_len a k) ≡ None → (n : ℕ) → a ≤ n → n < a + k → t n ≡ false
-none_found t zero a none n from to = absurd (omega arith)
-none_found t (suc k) a none n from to =
-    elim (t a) as (λ v. t a ≡ v → cond v (Some a) (find t (range_with_len (a + 1) k)) ≡ None → t n ≡ false) [
-      | true ↦ λ here is. cc
-      | false ↦ λ out later. ⊎_elim (λ (e : n ≡ a). ap t e ∙ out) (λ apart. none_found t k (a + 1) later n (omega arith) (omega arith)) (cases_eq n a)
-    ] refl none
-
 -- no step is there
 pub none_there : (a : AcceptedSteps) → first_in (squares_in a) ≡ None → (n : ℕ) (d : Dir) → n < 64 → has_step a n d ≡ false
 unfolding first_in
 none_there a none n d small =
-    no_direction (has_step a n) (sym (in_squares a n) ∙ none_found (is_in (squares_in a)) 64 0 none n (omega arith) (omega arith)) d
+    no_direction (has_step a n) (sym (in_squares a n) ∙ all_fail (is_in (squares_in a)) 64 0 none n (omega arith) (omega arith)) d
 
 -- the lowest square of some steps
 pub record IsLowest (a : AcceptedSteps) (m : ℕ) : Type 0 where

@@ -30,6 +30,7 @@ use Rattle.arimaa_results.proofs.Keeping.{with_new-there, with_new-old, with_new
 use Rattle.arimaa_results.proofs.Layers.{IsOf, In-next, In-next-grows, layer-of, layer-zero, layer-suc, decoded, decoded-of, start_gives}
 use Rattle.arimaa_results.proofs.News.{news, firsts-news, new-absent}
 use Rattle.arimaa_results.proofs.StatePairs.{pairs_by-is, states_by-is}
+use Rattle.arimaa_results.proofs.Kept.{left_other}
 
 -- a state, and a step that it accepts
 abbrev pub Made : Type 0
@@ -50,10 +51,6 @@ old_not_next : (seen kept : List (List ℕ)) (st : TurnState) → ((w : List ℕ
 old_not_next seen [] st new old = refl
 old_not_next seen (v ∷ kept) st new old =
     false_from_ne_true (same_words v (state_planes st)) (λ e. new v (inl refl) (subst (λ (w : List ℕ). In w seen) (sym ((same_words-Decides v (state_planes st)).0 e)) old))
-
-after_other : (kept : List (List ℕ)) (st : TurnState) → is_next kept st ≡ false → left_after kept st ≡ kept
-after_other [] st other = refl
-after_other (v ∷ kept) st other = ap (λ b. cond b kept (v ∷ kept)) other
 
 abbrev nothing : Result Position TurnFault → List Position
 nothing end = []
@@ -131,7 +128,7 @@ module _ {R : Type 0} (all : TurnState → List R) (some : TurnState → Step �
               let known : (y : R) → In y (Full u) → In y (flat_map Full before) = λ y j.
               flat_map-In Full y old.0 before old.1 (subst (λ st. In y (all st)) one j) in
               subst (λ v. AreLess Full before (u ∷ us) (placed (cond v (news_of seen ws) (words u ∷ tail)) (u ∷ us))) (sym found)
-              ([], placed (news_of seen ws) us, (λ i. cond (other i) (some u.0 u.1) [] ++ placed (after_other (news_of seen ws) S other i) us), less_none (flat_map Full before) (Full u) known, rest)
+              ([], placed (news_of seen ws) us, (λ i. cond (other i) (some u.0 u.1) [] ++ placed (left_other (news_of seen ws) S other i) us), less_none (flat_map Full before) (Full u) known, rest)
           by_test false absent _ rest =
               let same : same_words (words u) (words u) ≡ true = (same_words-Decides (words u) (words u)).1 refl in
               subst (λ v. AreLess Full before (u ∷ us) (placed (cond v (news_of seen ws) (words u ∷ tail)) (u ∷ us))) (sym absent)

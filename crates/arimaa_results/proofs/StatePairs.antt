@@ -7,6 +7,7 @@ use Rattle.arimaa_board.specs.declared.position.Position.{Position}
 use Rattle.arimaa_model.specs.declared.fault.TurnFault.{TurnFault}
 use Rattle.arimaa_model.specs.declared.fault.TurnFault.TheVariants.{Empty, Unfinished}
 use Rattle.std.proofs.lemmas.Bool.{and_parts, cases_eq, true≢false}
+use Rattle.std.proofs.Math.Bool.{and-true}
 use Rattle.arimaa_board.specs.declared.square.Dir.{Dir}
 use Rattle.arimaa_board.specs.declared.square.Dir.TheVariants.{North, East, South, West}
 use Rattle.arimaa_board.specs.declared.piece.Piece.{Piece}
@@ -25,7 +26,7 @@ use Rattle.arimaa_step.specs.declared.state.TurnState.{TurnState}
 use Rattle.arimaa_step.specs.Accepted.{accepts, accepts_content, ends_by, ends_content, AreAccepted, AreEnding, mask_towards}
 use Rattle.arimaa_step.specs.Next.{next_answer, next_fault, next_state, cuts_next, state_end}
 use Rattle.arimaa_step.specs.State.{trap_first}
-use Rattle.arimaa_step.proofs.AcceptedLaws.{and_true, and_false}
+use Rattle.arimaa_step.proofs.AcceptedLaws.{and_false}
 use Rattle.arimaa_model.specs.Marks.{removed_by}
 use Rattle.arimaa_results.specs.Ahead.{made, states_by, next_states, value_of, allowed, given_by}
 use Rattle.arimaa_results.specs.NextStates.{AreAllEnding, ends_of, pairs_by, next_pairs, pairs_of_content, has_step, pairs_from, pairs_left, AreAllAccepted, same_dir, IsFirstDirection, IsTaken}
@@ -74,16 +75,16 @@ by_four X n e s w = cond n (X North) [] ++ (cond e (X East) [] ++ (cond s (X Sou
 by_test-first : {Y : Type 0} (t u : Dir → Bool) (X : Dir → List Y) (d : Dir) → t d ≡ true → IsFirstDirection t d → ((e : Dir) → u e ≡ (t e && not (same_dir e d))) → by_test t X ≡ X d ++ by_test u X
 by_test-first t u X North here first left =
     (λ i. by_four X (here i) (t East) (t South) (t West))
-    ∙ sym (λ i. X North ++ by_four X ((left North ∙ and_false (t North)) i) ((left East ∙ and_true (t East)) i) ((left South ∙ and_true (t South)) i) ((left West ∙ and_true (t West)) i))
+    ∙ sym (λ i. X North ++ by_four X ((left North ∙ and_false (t North)) i) ((left East ∙ and-true (t East)) i) ((left South ∙ and-true (t South)) i) ((left West ∙ and-true (t West)) i))
 by_test-first t u X East here first left =
     (λ i. by_four X (first i) (here i) (t South) (t West))
-    ∙ sym (λ i. X East ++ by_four X ((left North ∙ (and_true (t North) ∙ first)) i) ((left East ∙ and_false (t East)) i) ((left South ∙ and_true (t South)) i) ((left West ∙ and_true (t West)) i))
+    ∙ sym (λ i. X East ++ by_four X ((left North ∙ (and-true (t North) ∙ first)) i) ((left East ∙ and_false (t East)) i) ((left South ∙ and-true (t South)) i) ((left West ∙ and-true (t West)) i))
 by_test-first t u X South here first left =
     (λ i. by_four X (first.0 i) (first.1 i) (here i) (t West))
-    ∙ sym (λ i. X South ++ by_four X ((left North ∙ (and_true (t North) ∙ first.0)) i) ((left East ∙ (and_true (t East) ∙ first.1)) i) ((left South ∙ and_false (t South)) i) ((left West ∙ and_true (t West)) i))
+    ∙ sym (λ i. X South ++ by_four X ((left North ∙ (and-true (t North) ∙ first.0)) i) ((left East ∙ (and-true (t East) ∙ first.1)) i) ((left South ∙ and_false (t South)) i) ((left West ∙ and-true (t West)) i))
 by_test-first t u X West here first left =
     (λ i. by_four X (first.0 i) (first.1 i) (first.2 i) (here i))
-    ∙ sym (λ i. X West ++ by_four X ((left North ∙ (and_true (t North) ∙ first.0)) i) ((left East ∙ (and_true (t East) ∙ first.1)) i) ((left South ∙ (and_true (t South) ∙ first.2)) i) ((left West ∙ and_false (t West)) i))
+    ∙ sym (λ i. X West ++ by_four X ((left North ∙ (and-true (t North) ∙ first.0)) i) ((left East ∙ (and-true (t East) ∙ first.1)) i) ((left South ∙ (and-true (t South) ∙ first.2)) i) ((left West ∙ and_false (t West)) i))
 
 module _ (st : TurnState) where
   no_state : (r : Result StepDone StepFault) → is_ok r ≡ false → option_to_list (made r) ≡ []
@@ -163,7 +164,7 @@ module _ (st : TurnState) where
         (λ n _ lower. (by_test-none (has_step old n) (content n) (λ e. taken.none_lower n e lower), by_test-none (has_step new n) (content n) (λ e. none_new n e lower)))
         (by_test-first (has_step old m) (has_step new m) (λ e. pairs_of_content st m e (at st.board m)) d taken.there taken.none_earlier (λ e. taken.left m e taken.on_board ∙ ap (λ v. has_step old m e && not (v && same_dir e d)) (eq-eqb m m refl))
         ∙ ap (λ l. l ++ pairs_from st new m) its_pair)
-        (λ n above small. by_test-agree (has_step old n) (has_step new n) (content n) (λ e. let apart : n ≢ m = omega arith in sym (taken.left n e small ∙ (ap (λ v. has_step old n e && not (v && same_dir e d)) (ne_eqb n m apart) ∙ and_true (has_step old n e))))) where
+        (λ n above small. by_test-agree (has_step old n) (has_step new n) (content n) (λ e. let apart : n ≢ m = omega arith in sym (taken.left n e small ∙ (ap (λ v. has_step old n e && not (v && same_dir e d)) (ne_eqb n m apart) ∙ and-true (has_step old n e))))) where
           content : ℕ → Dir → List (Step × TurnState)
           content n e = pairs_of_content st n e (at st.board n)
 
