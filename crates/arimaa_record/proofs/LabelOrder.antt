@@ -1,5 +1,5 @@
 -- The label before the one that is due.
-use Rattle.std.proofs.Common.{◌≡◌, ℕ, ◌+◌, ◌-◌, Bool, true, false, refl, ◌∙◌, ap, arith, true≢false, sym}
+use Rattle.std.proofs.Common.{◌≡◌, ℕ, ◌+◌, ◌-◌, Bool, true, false, refl, ap, arith, true≢false}
 use Rattle.std.specs.Prelude.{not, cond, nat_lt}
 use Rattle.arimaa_board.specs.declared.piece.Color.{Color}
 use Rattle.arimaa_board.specs.declared.piece.Color.TheVariants.{Gold, Silver}

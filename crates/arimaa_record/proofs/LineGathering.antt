@@ -43,7 +43,8 @@ pub record Midway (first : List ℕ) (before : ℕ) (held line : List ℕ) (take
   pub counted : taken ≡ before + length came
   pub no_feed : HasNoFeed line
 
-none_before : (left : Option (List ℕ)) → left ≡ prepend_known [] left
+-- nothing was taken
+pub none_before : (left : Option (List ℕ)) → left ≡ prepend_known [] left
 none_before None = refl
 none_before (Some bytes) = refl
 

@@ -2,9 +2,8 @@
 use Rattle.std.proofs.Common.{◌≡◌, ℕ, ◌<◌, ◌^◌, ◌-◌, List, [], ◌∷◌, ◌++◌, length, map, take, get_or, arith, Option, None, Some, false, refl, ◌∙◌, ap, cond, append_assoc, ne_eqb}
 use Rattle.std.specs.Prelude.{All, codes}
 use Rattle.std.specs.Fmt.{decimal}
-use Rattle.std.specs.List.{AllByRecursion, range_with_len, slice_split}
+use Rattle.std.specs.List.{AllByRecursion, range_with_len, slice_split, AllZip}
 use Rattle.std.specs.Str.Lines.{strip_carriage_return}
-use Rattle.std.proofs.lemmas.Bool.Decides.{nat_tests}
 use Rattle.std.proofs.lemmas.Fmt.{decimal_is_IsNumeral}
 use Rattle.std.proofs.lemmas.List.Elements.{All-from_recursion, recursion_from_All, All-from_get_or}
 use Rattle.std.proofs.lemmas.List.Splits.{slice_split_at, length-slice_split}
@@ -13,15 +12,13 @@ use Rattle.arimaa_board.specs.declared.board.Board.{Board}
 use Rattle.arimaa_board.specs.declared.piece.Color.{Color}
 use Rattle.arimaa_board.specs.declared.piece.Color.TheVariants.{Gold, Silver}
 use Rattle.arimaa_board.specs.declared.piece.Piece.{Piece}
-use Rattle.arimaa_board.specs.declared.square.Dir.{Dir}
-use Rattle.arimaa_board.specs.declared.square.Dir.TheVariants.{North, East, South, West}
 use Rattle.arimaa_board.specs.declared.turn.NotedStep.{NotedStep}
 use Rattle.arimaa_board.specs.Board.{at}
 use Rattle.arimaa_board.specs.Text.{letter_of_content, places_of, text_of, turned}
 use Rattle.arimaa_board.specs.declared.ending.Word.{Word}
 use Rattle.arimaa_board.specs.declared.ending.Word.TheVariants.{Resigns, Time}
 use Rattle.arimaa_notation.specs.Items.{is_blank}
-use Rattle.arimaa_notation.specs.Written.{letter_of_dir, text_of_step, text_of_mark, text_of_entry, items_of_mark, items_of_step, items_of_turn, joined}
+use Rattle.arimaa_notation.specs.Written.{text_of_step, text_of_mark, text_of_entry, items_of_mark, items_of_step, items_of_turn, joined}
 use Rattle.arimaa_notation.proofs.ReadingBack.{not_blank, dir_seen}
 use Rattle.arimaa_notation.proofs.WrittenLaws.{letter_seen}
 use Rattle.arimaa_record.specs.declared.label.Label.{Label}
@@ -55,6 +52,18 @@ solid_seen bytes all = All-from_recursion (λ b. is_blank b ≡ false) bytes (so
 pub all_append : {X : Type 0} (P : X → Type 0) (xs ys : List X) → AllByRecursion P xs → AllByRecursion P ys → AllByRecursion P (xs ++ ys)
 all_append P [] ys a b = b
 all_append P (x ∷ xs) ys a b = (a.0, all_append P xs ys a.1 b)
+
+-- of all these and of one more
+pub all_more : {X : Type 0} (P : X → Type 0) (xs : List X) (x : X) → AllByRecursion P xs → P x → AllByRecursion P (xs ++ x ∷ [])
+all_more P xs x all one = all_append P xs (x ∷ []) all (one, tt)
+
+-- two lists are alike at each place where they are so far, and at one more
+pub all_zip_push : {A B : Type 0} (R : A → B → Type 0) (xs : List A) (ys : List B) (x : A) (y : B)
+    → AllZip R xs ys → R x y → AllZip R (xs ++ x ∷ []) (ys ++ y ∷ [])
+all_zip_push R [] [] x y all more = (more, tt)
+all_zip_push R [] (b ∷ ys) x y all more = absurd all
+all_zip_push R (a ∷ xs) [] x y all more = absurd all
+all_zip_push R (a ∷ xs) (b ∷ ys) x y all more = (all.0, all_zip_push R xs ys x y all.1 more)
 
 all_map : {X Y : Type 0} (P : Y → Type 0) (f : X → Y) (xs : List X) → ((x : X) → P (f x)) → AllByRecursion P (map f xs)
 all_map P f [] h = tt

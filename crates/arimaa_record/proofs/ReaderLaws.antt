@@ -1,7 +1,6 @@
 -- Lines that have none of the forms, and those of one form alone.
-use Rattle.std.proofs.Common.{◌≡◌, ◌≢◌, ⊎_elim, zero, suc, ℕ, ◌<◌, List, [], ◌∷◌, length, take, get_or, false, true≢false, sym, ◌∙◌, ap, subst, arith, refl, inl, inr, eq-eqb, None, Some, Result, Ok, Err}
+use Rattle.std.proofs.Common.{◌≡◌, ◌≢◌, ⊎_elim, ℕ, ◌<◌, List, [], ◌∷◌, length, take, get_or, false, true≢false, sym, ◌∙◌, ap, subst, arith, refl, inl, inr, eq-eqb, Result, Ok, Err}
 use Rattle.std.specs.Prelude.{◌==◌, ◌↔◌, codes}
-use Rattle.std.specs.List.{AllByRecursion}
 use Rattle.std.proofs.lemmas.Bool.{cases_lt}
 use Rattle.std.proofs.lemmas.List.{take-map}
 use Rattle.arimaa_board.specs.declared.piece.Piece.{Piece}

@@ -1,12 +1,10 @@
 -- What is written for a line is read as it, and what is written for a record falls into its lines.
-use Rattle.std.proofs.Common.{◌≡◌, ℕ, ◌+◌, ◌-◌, ◌<◌, List, [], ◌∷◌, ◌++◌, length, take, get_or, map, refl, sym, ◌∙◌, ap, subst, arith, inl, append_assoc, cond, Bool, true, false, true≢false, Some, Result, Ok, Err, ne_eqb, take_all}
+use Rattle.std.proofs.Common.{◌≡◌, ℕ, ◌+◌, ◌-◌, ◌<◌, List, [], ◌∷◌, ◌++◌, length, take, get_or, map, refl, sym, ◌∙◌, ap, subst, arith, inl, append_assoc, Bool, true, false, true≢false, Some, Result, Ok, Err, take_all}
 use Rattle.std.specs.Prelude.{codes, ◌==◌, OnOk}
-use Rattle.std.specs.List.{AllByRecursion, slice_split, prefix_len, suffix_len}
-use Rattle.std.specs.Str.Lines.{strip_carriage_return}
+use Rattle.std.specs.List.{AllByRecursion, prefix_len, suffix_len}
 use Rattle.std.proofs.lemmas.Grind.{flat_map-append}
 use Rattle.std.proofs.lemmas.List.{append-nil, reverse-append, take_more}
 use Rattle.std.proofs.lemmas.List.Elements.{All-from_recursion, All-nil}
-use Rattle.std.proofs.lemmas.List.Splits.{slice_split_at, length-slice_split}
 use Rattle.arimaa_board.specs.declared.board.Board.{Board}
 use Rattle.arimaa_board.specs.declared.piece.Color.{Color}
 use Rattle.arimaa_board.specs.declared.piece.Color.TheVariants.{Gold, Silver}
@@ -28,11 +26,11 @@ use Rattle.arimaa_record.specs.declared.line.RecordLine.{RecordLine}
 use Rattle.arimaa_record.specs.declared.line.RecordLine.TheVariants as line
 use Rattle.arimaa_record.specs.Label.{side_of_letter, IsLabel, label_of, letter_of_side, text_of_label}
 use Rattle.arimaa_notation.specs.Items.{without_last_blanks, trimmed}
-use Rattle.arimaa_record.specs.Lines.{is_feed, lines_of_pieces, lines_of}
+use Rattle.arimaa_record.specs.Lines.{lines_of}
 use Rattle.arimaa_record.specs.Grammar.{IsStartForm, IsLabelled, text_of_word, takeback_word, IsLineText}
 use Rattle.arimaa_record.specs.Record.{AreLines}
 use Rattle.arimaa_record.specs.Written.{IsInRange, IsWritable, spaced, text_of_line, ended_line, text_of_record}
-use Rattle.arimaa_record.proofs.LineLaws.{lines_of_pieces-cons, no_lines}
+use Rattle.arimaa_record.proofs.LineLaws.{no_lines}
 use Rattle.arimaa_record.proofs.PlainLaws.{solid_seen, first_plain, label_seen, label_filled, line_plain}
 
 side_back : (side : Color) → side_of_letter (letter_of_side side) ≡ Some side

@@ -1,12 +1,11 @@
 //! The reader of lines.
-ghost use Rattle.std.specs.Prelude.{◌≡◌, ◌↔◌, ◌≤◌, ◌<◌, ◌++◌, ◌∷◌, [], true, false, IfOk, IfSome, OnErr, OnOk, IsErrOf, length};
+ghost use Rattle.std.specs.Prelude.{◌≡◌, ◌↔◌, ◌≤◌, ◌<◌, true, false, IfOk, OnErr, IsErrOf, length};
 ghost use Rattle.std.specs.Borrow.{sem};
 ghost use Rattle.std.specs.Io.BufRead.{Rests};
-ghost use Rattle.std.specs.Io.KnownBytes.{IsAtEnd};
 ghost use Rattle.arimaa_outside.specs.Faults.{HasRisen};
 ghost use Rattle.arimaa_outside.specs.declared.source.ReadAll.TheVariants.{Fault, TooLong};
 ghost use Rattle.arimaa_record.specs.contracts.line_reader.LineReader.{the_row};
-ghost use Rattle.arimaa_record.specs.LineReader.{Advances, Gathers, HasNoFeed, IsNew, IsNext, Takes, IsPiece, given_bytes, given_line};
+ghost use Rattle.arimaa_record.specs.LineReader.{Advances, Gathers, IsNew, IsNext, Takes, IsPiece, given_bytes, given_line};
 
 use crate::buffer::Buffer;
 use crate::lines::{line_len, without_return};

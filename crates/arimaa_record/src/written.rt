@@ -1,5 +1,5 @@
 //! The written form of records.
-ghost use Rattle.std.specs.Prelude.{◌≡◌, ◌<◌, length, [], ◌∷◌, ◌++◌, IfOk, OnOk};
+ghost use Rattle.std.specs.Prelude.{◌≡◌, ◌<◌, length, ◌∷◌, ◌++◌, IfOk, OnOk};
 ghost use Rattle.arimaa_notation.specs.Written.{items_of_turn, text_of_turn};
 ghost use Rattle.arimaa_notation.specs.Grammar.{IsTurnText};
 ghost use Rattle.arimaa_record.specs.Label.{text_of_label, letter_of_side};
