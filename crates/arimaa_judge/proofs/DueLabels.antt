@@ -1,5 +1,5 @@
 -- The labels of the turn lines that stand, before the one that is due.
-use Rattle.std.proofs.Common.{◌≡◌, ◌≤◌, ◌<◌, ◌+◌, ◌-◌, ℕ, zero, suc, Bool, true, false, cond, List, [], ◌∷◌, ◌++◌, length, length-append, reverse, Option, None, Some, refl, sym, ap, subst, ◌∙◌, arith, ne_eqb, true≢false}
+use Rattle.std.proofs.Common.{◌≡◌, ◌≤◌, ◌<◌, ◌+◌, ◌-◌, ℕ, zero, suc, Bool, true, false, cond, List, [], ◌∷◌, length, length-append, reverse, Option, None, Some, refl, sym, ap, subst, ◌∙◌, arith, ne_eqb, true≢false}
 use Rattle.std.specs.Prelude.{◌==◌, not, nat_lt}
 use Rattle.std.proofs.lemmas.List.{length-take-le}
 use Rattle.arimaa_board.specs.declared.piece.Color.{Color}

@@ -1,15 +1,14 @@
 -- The judgement of lines, one after another.
-use Rattle.std.proofs.Common.{◌≡◌, ◌+◌, ◌≤◌, ℕ, List, [], ◌∷◌, Option, None, Some, Ok, Err, length, sym, ap, subst, ◌∙◌, arith}
+use Rattle.std.proofs.Common.{◌≡◌, ◌+◌, ◌≤◌, ℕ, List, [], ◌∷◌, Option, None, Some, length, sym, ap, subst, ◌∙◌, arith}
 use Rattle.arimaa_record.specs.declared.label.Label.{Label}
 use Rattle.arimaa_record.specs.Laws.{LinesApart}
 use Rattle.arimaa_record.specs.Lines.{lines_of}
 use Rattle.arimaa_record.proofs.LineLaws.{no_lines}
 use Rattle.arimaa_record.specs.declared.line.RecordLine.TheVariants as line
-use Rattle.arimaa_board.specs.Setup.{Lineup}
 use Rattle.arimaa_judge.specs.declared.judgement.Judged.{Judged}
 use Rattle.arimaa_judge.specs.declared.judgement.Judged.TheVariants.{Bad}
 use Rattle.arimaa_judge.specs.declared.rule.Rule.{Rule}
-use Rattle.arimaa_judge.specs.RecordState.{Reading, RecordState, after_reading, with_setup_after}
+use Rattle.arimaa_judge.specs.RecordState.{Reading, RecordState, after_reading}
 use Rattle.arimaa_judge.specs.Rules.{rule_at}
 use Rattle.arimaa_judge.specs.Judged.{IsJudgedFrom, IsOutcome, TakesLine, lawful_of}
 

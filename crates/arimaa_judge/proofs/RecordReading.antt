@@ -1,17 +1,17 @@
 -- A record is judged as it is read.
-use Rattle.std.proofs.Common.{◌≡◌, ◌≤◌, ◌<◌, ◌+◌, ℕ, Bool, true, false, List, [], ◌∷◌, ◌++◌, Option, None, Some, Result, Ok, Err, length, refl, sym, ap, subst, ◌∙◌, arith, append_assoc, length-append, ⊎_elim}
+use Rattle.std.proofs.Common.{◌≡◌, ◌≤◌, ◌<◌, ◌+◌, ℕ, Bool, true, false, List, [], ◌∷◌, ◌++◌, Option, None, Some, Ok, Err, length, refl, ap, subst, ◌∙◌, arith, append_assoc, length-append, ⊎_elim}
 use Rattle.std.proofs.lemmas.Bool.{cases_lt}
 use Rattle.std.specs.Prelude.{IfSome, IsErrOf, option_map}
 use Rattle.std.specs.Io.KnownBytes.{IsAtEnd, prepend_known}
-use Rattle.std.proofs.lemmas.List.{append-nil}
 use Rattle.arimaa_outside.proofs.Content.{gave_both}
 use Rattle.arimaa_outside.specs.declared.source.ReadAll.{ReadAll}
 use Rattle.arimaa_outside.specs.declared.source.ReadAll.TheVariants.{Fault, TooLong, Memory}
 use Rattle.arimaa_outside.specs.declared.source.TheConstants.{INPUT_LIMIT}
 use Rattle.arimaa_record.specs.declared.line_reader.LineReader.{LineReader}
 use Rattle.arimaa_record.specs.Lines.{lines_of}
-use Rattle.arimaa_record.specs.LineReader.{Advances, IsFirstLine, IsNew, IsNext, StaysEnded, Takes, to_come}
+use Rattle.arimaa_record.specs.LineReader.{Advances, IsFirstLine, IsNew, IsNext, Takes, to_come}
 use Rattle.arimaa_record.proofs.LineLaws.{no_lines}
+use Rattle.arimaa_record.proofs.LineGathering.{none_before}
 use Rattle.arimaa_judge.specs.declared.judgement.Judged.{Judged}
 use Rattle.arimaa_judge.specs.declared.progress.Progress.{Progress}
 use Rattle.arimaa_judge.specs.Judged.{IsJudged}
@@ -24,10 +24,6 @@ pub record Took (taken : ℕ) (left now : Option (List ℕ)) : Type 0 where
   pub all : List ℕ
   pub told : left ≡ prepend_known all now
   pub counted : taken ≡ length all
-
-none_before : (left : Option (List ℕ)) → left ≡ prepend_known [] left
-none_before None = refl
-none_before (Some bytes) = refl
 
 -- a call took some more
 pub took-more : (before after : LineReader) (left mid now : Option (List ℕ)) → Took before.taken left mid → Takes before after mid now → Took after.taken left now

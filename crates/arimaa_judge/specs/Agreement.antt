@@ -13,4 +13,6 @@ JudgementsAgree = (bytes : List ℕ) (a b : Judged) → IsJudged bytes a → IsJ
 
 -- the number of a first bad line is that of one of the lines, counted from 1
 abbrev pub BadLinesAreThere : Type 0
-BadLinesAreThere = (bytes : List ℕ) (number : ℕ) (due : Label) (rule : Rule) → IsJudged bytes (Bad number due rule) → (1 ≤ number) × (number ≤ length (lines_of bytes))
+BadLinesAreThere =
+    (bytes : List ℕ) (number : ℕ) (due : Label) (rule : Rule) → IsJudged bytes (Bad number due rule)
+    → (1 ≤ number) × (number ≤ length (lines_of bytes))

@@ -18,24 +18,30 @@ use Rattle.arimaa_judge.specs.Rules.{rule_at}
 abbrev pub lawful_of : RecordState → Judged
 lawful_of s = Lawful s.history (length s.labels) (state_ending s) s.due
 
--- the outcome at a line: where it breaks a rule the record is bad there, and else it is what the later lines make it
+-- the outcome at a line: where it breaks a rule the record is bad there, and else it is what the
+-- later lines make it
 abbrev pub IsOutcome : Option Rule → ℕ → Label → Judged → Type 0 → Type 0
 IsOutcome (Some rule) number due judged later = judged ≡ Bad number due rule
 IsOutcome None number due judged later = later
 
--- the judgement of these lines, the first of which has this number, where this is the state of the record before them
+-- the judgement of these lines, the first of which has this number, where this is the state of the
+-- record before them
 abbrev pub IsJudgedFrom : RecordState → ℕ → List (List ℕ) → Judged → Type 0
 IsJudgedFrom s number [] judged = judged ≡ lawful_of s
 IsJudgedFrom s number (line ∷ later) judged =
-    (r : Reading) × IsLineReading line r × IsOutcome (rule_at s r) number s.due judged (IsJudgedFrom (after_reading s r) (number + 1) later judged)
+    (r : Reading) × IsLineReading line r
+    × IsOutcome (rule_at s r) number s.due judged
+    (IsJudgedFrom (after_reading s r) (number + 1) later judged)
 
 -- a line is taken, and leads to the next state, unless it breaks a rule: then all stays
-pub record Accepts (s : RecordState) (due : Option Rule) (next : RecordState) (broken : Option Rule) (later : RecordState) : Type 0 where
+pub record Accepts (s : RecordState) (due : Option Rule) (next : RecordState)
+    (broken : Option Rule) (later : RecordState) : Type 0 where
   pub rule : due ≡ broken
   pub after : later ≡ (if is_some broken then s else next)
 
 -- what a line does to the state of a record: where it breaks a rule, all stays
-pub record TakesLine (s : RecordState) (line : List ℕ) (broken : Option Rule) (later : RecordState) : Type 0 where
+pub record TakesLine (s : RecordState) (line : List ℕ) (broken : Option Rule)
+    (later : RecordState) : Type 0 where
   pub reading : Reading
   pub read : IsLineReading line reading
   pub rule : rule_at s reading ≡ broken
@@ -50,7 +56,8 @@ abbrev pub HasFitBoards : Judged → Type 0
 HasFitBoards (Lawful history turns ended next) = All (λ q. IsFit q.board) history
 HasFitBoards (Bad number due rule) = Unit {0}
 
--- in the game of a lawful record each position after the first is one that the rules of the game allow after those before it, which had not ended the game
+-- in the game of a lawful record each position after the first is one that the rules of the game
+-- allow after those before it, which had not ended the game
 abbrev pub HasLawfulTurns : Judged → Type 0
 HasLawfulTurns (Lawful history turns ended next) = AreLawful history
 HasLawfulTurns (Bad number due rule) = Unit {0}
@@ -62,5 +69,6 @@ HasTurnCount (Bad number due rule) = Unit {0}
 
 -- the game of a lawful record has ended as the rules say, or by a word
 abbrev pub HasEnding : Judged → Type 0
-HasEnding (Lawful history turns ended next) = (ended ≡ ending history) ⊎ ((e : Ending) × (ended ≡ Some e) × IsByWord e)
+HasEnding (Lawful history turns ended next) =
+    (ended ≡ ending history) ⊎ ((e : Ending) × (ended ≡ Some e) × IsByWord e)
 HasEnding (Bad number due rule) = Unit {0}

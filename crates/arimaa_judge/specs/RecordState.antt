@@ -41,7 +41,14 @@ first_label = label_of 1 Gold
 
 -- before the first line
 abbrev pub before_lines : RecordState
-before_lines = record { gold = None; history = []; labels = []; due = first_label; closed = false; word = None }
+before_lines = record {
+  gold = None;
+  history = [];
+  labels = [];
+  due = first_label;
+  closed = false;
+  word = None;
+}
 
 -- the game has a position: a turn is due, and no setup
 abbrev pub is_playing : RecordState → Bool
@@ -73,12 +80,19 @@ with_turn h steps = added (present h) where
 
 -- after a start line: its position is the first of the game, and its own label is due
 abbrev pub with_start : RecordState → Label → Board → RecordState
-with_start s label board = let p : Position = record { board = board; side = label.side } in record s { gold = None; history = p ∷ []; due = label }
+with_start s label board =
+    let p : Position = record { board = board; side = label.side } in
+    record s { gold = None; history = p ∷ []; due = label }
 
--- after a setup, where Gold's stands or does not: the first is Gold's, and with the second the game begins
+-- after a setup, where Gold's stands or does not: the first is Gold's, and with the second the game
+-- begins
 abbrev pub with_setup_after : RecordState → Lineup → Option Lineup → RecordState
 with_setup_after s lineup None = record s { gold = Some lineup; due = next_label s.due }
-with_setup_after s lineup (Some gold) = record s { gold = None; history = position_after_setups gold lineup ∷ []; due = next_label s.due }
+with_setup_after s lineup (Some gold) = record s {
+  gold = None;
+  history = position_after_setups gold lineup ∷ [];
+  due = next_label s.due;
+}
 
 -- after a setup
 abbrev pub with_setup : RecordState → Lineup → RecordState
@@ -86,9 +100,14 @@ with_setup s lineup = with_setup_after s lineup s.gold
 
 -- after a turn that is played
 abbrev pub with_played : RecordState → List Step → RecordState
-with_played s steps = record s { history = with_turn s.history steps; labels = s.due ∷ s.labels; due = next_label s.due }
+with_played s steps = record s {
+  history = with_turn s.history steps;
+  labels = s.due ∷ s.labels;
+  due = next_label s.due;
+}
 
--- the side whose setup or turn is due: the side to move, and before there is a position that of the label
+-- the side whose setup or turn is due: the side to move, and before there is a position that of the
+-- label
 abbrev pub side_due : RecordState → Color
 side_due s = to_move (present s.history) where
   to_move : Option Position → Color

@@ -66,7 +66,8 @@ pub record AreRepeats (turns repeated : ℕ) (due : Label) : Type 0 where
 
 -- what holds of the stage, the label that is due, the number of turn lines that have it too, and
 -- the ending that a word declared
-pub record IsKept (at : Stage) (due : Label) (repeated : ℕ) (declared : Option Ending) : Type 0 where
+pub record IsKept (at : Stage) (due : Label) (repeated : ℕ)
+    (declared : Option Ending) : Type 0 where
   pub game : IsOpen at
   pub repeats : AreRepeats (turns_in (history_of at)) repeated due
   pub setups : AreSetupsDue at due.side

@@ -75,7 +75,8 @@ rule_of_game_fault (refusing.Turn fault) = Some (rule_of_turn fault)
 rule_of_game_fault refusing.Repeat = Some rule.Repeat
 rule_of_game_fault refusing.Memory = None
 
--- a line has to have the label that is due, and may say no more than a label once the rules have ended the game
+-- a line has to have the label that is due, and may say no more than a label once the rules have
+-- ended the game
 abbrev pub rule_of_label : RecordState → Label → Option Rule
 rule_of_label s label =
     if not (same_label s.due label) then Some rule.Number
@@ -88,12 +89,14 @@ rule_of_start s = if has_begun s then Some rule.Form else None
 
 -- a setup may not stand where a turn is due
 abbrev pub rule_of_setup : RecordState → Label → Option Rule
-rule_of_setup s label = option_or (rule_of_label s label) (if is_playing s then Some rule.Form else None)
+rule_of_setup s label =
+    option_or (rule_of_label s label) (if is_playing s then Some rule.Form else None)
 
 -- a turn may not stand where a setup is due, and it keeps the rules of the game
 abbrev pub rule_of_turn_line : RecordState → Label → List NotedStep → Option Rule
 rule_of_turn_line s label noted =
-    option_or (rule_of_label s label) (if is_playing s then turn_rule s.history noted else Some rule.Form)
+    option_or (rule_of_label s label)
+    (if is_playing s then turn_rule s.history noted else Some rule.Form)
 
 -- a takeback needs a turn that stands
 abbrev pub rule_of_takeback : RecordState → Label → Option Rule
@@ -104,7 +107,8 @@ rule_of_takeback s label =
 abbrev pub rule_of_bare : RecordState → Label → Option Rule
 rule_of_bare s label = if not (same_label s.due label) then Some rule.Number else None
 
--- the first rule that a line breaks where no line has closed the record: a line without content breaks none
+-- the first rule that a line breaks where no line has closed the record: a line without content
+-- breaks none
 abbrev pub rule_of_line : RecordState → RecordLine → Option Rule
 rule_of_line s line.Blank = None
 rule_of_line s (line.Start number side board) = rule_of_start s
@@ -114,13 +118,15 @@ rule_of_line s (line.Closing number side word) = rule_of_label s (label_of numbe
 rule_of_line s (line.Bare number side) = rule_of_bare s (label_of number side)
 rule_of_line s (line.Takeback number side) = rule_of_takeback s (label_of number side)
 
--- the first rule that a line breaks which is none of a record's lines, where no line has closed the record
+-- the first rule that a line breaks which is none of a record's lines, where no line has closed the
+-- record
 abbrev pub rule_of_line_fault : RecordState → LineFault → Rule
 rule_of_line_fault s reading.Text = rule.Text
 rule_of_line_fault s (reading.Steps _ _) = rule.Steps
 rule_of_line_fault s (reading.BadStart _ _ _) = if has_begun s then rule.Form else rule.Start
 rule_of_line_fault s (reading.BadSetup number side) =
-    unwrap_or (rule_of_label s (label_of number side)) (if is_playing s then rule.Form else rule.Setup)
+    unwrap_or (rule_of_label s (label_of number side))
+    (if is_playing s then rule.Form else rule.Setup)
 
 -- after a closing line or a label alone no line with content may follow
 abbrev pub rule_after_closing : RecordLine → Option Rule

@@ -62,9 +62,11 @@ state_line None next = line (codes "next " ++ text_of_label next)
 abbrev pub text_of_lawful : ℕ → Option Ending → Label → List ℕ
 text_of_lawful turns ending next = line (codes "lawful " ++ decimal turns) ++ state_line ending next
 
--- a bad record: the number of its first bad line, the label that is due there, and the rule that it breaks
+-- a bad record: the number of its first bad line, the label that is due there, and the rule that it
+-- breaks
 abbrev pub text_of_bad : ℕ → Label → Rule → List ℕ
-text_of_bad number label rule = line (codes "bad " ++ decimal number ++ 32 ∷ text_of_label label ++ 32 ∷ rule_word rule)
+text_of_bad number label rule =
+    line (codes "bad " ++ decimal number ++ 32 ∷ text_of_label label ++ 32 ∷ rule_word rule)
 
 -- a judgement
 abbrev pub text_of_judged : Judged → List ℕ

@@ -1,5 +1,5 @@
 //! The judgement of a record after some of its lines.
-ghost use Rattle.std.specs.Prelude.{◌≡◌, ◌≤◌, ◌<◌, ◌+◌, ◌^◌, [], IfOk, OnOk, is_some};
+ghost use Rattle.std.specs.Prelude.{◌≡◌, ◌≤◌, ◌<◌, ◌+◌, ◌^◌, [], OnOk, is_some};
 ghost use Rattle.arimaa_judge.specs.Judged.{HasEnding, HasFitBoards, HasLawfulTurns, HasTurnCount};
 ghost use Rattle.arimaa_judge.specs.Progress.{IsAtBegin, LeadsOn, LeadsTo};
 

@@ -1,5 +1,5 @@
 //! The texts that tell a judgement. Each line ends with a line feed.
-ghost use Rattle.std.specs.Prelude.{◌≡◌, ◌++◌, ◌∷◌, [], IfOk, OnOk};
+ghost use Rattle.std.specs.Prelude.{◌≡◌, ◌++◌, IfOk, OnOk};
 ghost use Rattle.std.specs.Fmt.{decimal};
 ghost use Rattle.arimaa_judge.specs.Texts.{side_word, cause_word, state_line, text_of_lawful, text_of_bad};
 

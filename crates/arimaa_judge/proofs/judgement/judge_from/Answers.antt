@@ -1,4 +1,4 @@
-use Rattle.std.proofs.Common.{◌≡◌, ◌∙◌, ap, sym, subst, arith, rules, None, Some, Ok, Err}
+use Rattle.std.proofs.Common.{◌≡◌, ◌∙◌, ap, subst, rules, None, Some, Ok, Err}
 use Rattle.std.proofs.lemmas.Result.{err_from_is_err_and}
 use Rattle.arimaa_record.specs.LineReader.{IsNext, given_bytes}
 use Rattle.arimaa_judge.proofs.RecordReading.{long_stop, reading-end, reading-more, reading-start, took-line, took-stop}

@@ -1,10 +1,10 @@
-use Rattle.std.proofs.Common.{◌≡◌, ◌∙◌, ap, cond, false, rules, subst, sym}
+use Rattle.std.proofs.Common.{◌≡◌, ◌∙◌, ap, cond, false, rules, sym}
 use Rattle.std.specs.Prelude.{is_some}
 use Rattle.arimaa_board.specs.Noted.{noted_turn}
 use Rattle.arimaa_game.specs.Play.{turns_in}
 use Rattle.arimaa_judge.specs.declared.record_state.Stage.TheVariants as stage
 use Rattle.arimaa_judge.specs.RecordState.{RecordState, with_played, with_turn}
-use Rattle.arimaa_judge.specs.RecordStateInvariant.{AreRepeats, history_of}
+use Rattle.arimaa_judge.specs.RecordStateInvariant.{AreRepeats}
 use Rattle.arimaa_judge.proofs.DueLabels.{played-state, repeats-before, state_at}
 use Rattle.arimaa_judge.proofs.record_state.RecordState.play.Goals as goal
 

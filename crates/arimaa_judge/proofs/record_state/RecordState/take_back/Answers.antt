@@ -1,14 +1,12 @@
-use Rattle.std.proofs.Common.{◌≡◌, ◌∙◌, ap, cond, eq-eqb, ne_eqb, false, true, rules, subst, sym, true≢false, None, Some, refl}
-use Rattle.std.specs.Prelude.{◌==◌, not}
-use Rattle.std.specs.Option.{option_or}
-use Rattle.std.proofs.lemmas.Bool.{eqb-true}
+use Rattle.std.proofs.Common.{◌≡◌, ◌∙◌, ap, eq-eqb, false, true, rules, sym, true≢false, None, refl}
+use Rattle.std.specs.Prelude.{◌==◌}
 use Rattle.arimaa_model.specs.Wins.{is_nil}
 use Rattle.arimaa_game.specs.Play.{turns_in}
 use Rattle.arimaa_judge.specs.declared.record_state.Stage.TheVariants as stage
 use Rattle.arimaa_judge.specs.declared.rule.Rule.TheVariants as rule
 use Rattle.arimaa_judge.specs.RecordState.{RecordState, with_turn_back}
-use Rattle.arimaa_judge.specs.RecordStateInvariant.{AreRepeats, history_of, labels_before}
-use Rattle.arimaa_judge.specs.Rules.{rule_of_label, rule_of_takeback}
+use Rattle.arimaa_judge.specs.RecordStateInvariant.{AreRepeats}
+use Rattle.arimaa_judge.specs.Rules.{rule_of_label}
 use Rattle.arimaa_judge.proofs.DueLabels.{labels-none, none-standing, repeats-taken, same-state, state_at, taken-state}
 use Rattle.arimaa_judge.proofs.record_state.RecordState.take_back.Goals as goal
 
