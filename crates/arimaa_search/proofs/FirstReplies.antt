@@ -14,29 +14,25 @@ use Rattle.arimaa_results.specs.Passing.{brings_passing, first_passing}
 use Rattle.arimaa_results.proofs.Firsts.{filter-firsts}
 use Rattle.arimaa_results.proofs.Found.{filter-any}
 use Rattle.arimaa_results.specs.Ahead.{allowed}
+use Rattle.arimaa_results.proofs.Given.{head_of}
 
--- what a list begins with
-abbrev pub front : {X : Type 0} → List X → Option X
-front [] = None
-front (x ∷ xs) = Some x
-
-pub begins : {X : Type 0} (q : X) (xs : List X) → front xs ≡ Some q → xs ≡ q ∷ drop 1 xs
+pub begins : {X : Type 0} (q : X) (xs : List X) → head_of xs ≡ Some q → xs ≡ q ∷ drop 1 xs
 begins q [] e = absurd (cc)
 begins q (x ∷ xs) e = let same : x ≡ q = cc in ap (λ y. y ∷ xs) same
 
 -- first occurrences begin as the list does
-front-firsts : {X : Type 0} (same : X → X → Bool) (q : X) (qs ys : List X) → front (firsts same (q ∷ qs) ys) ≡ Some q
+front-firsts : {X : Type 0} (same : X → X → Bool) (q : X) (qs ys : List X) → head_of (firsts same (q ∷ qs) ys) ≡ Some q
 front-firsts same q qs [] = refl
 front-firsts same q qs (y ∷ ys) =
-    elim (list_any (same y) (q ∷ qs)) as (λ v. front (firsts same (cond v (q ∷ qs) (q ∷ (qs ++ y ∷ []))) ys) ≡ Some q) [ true ↦ front-firsts same q qs ys | false ↦ front-firsts same q (qs ++ y ∷ []) ys ]
+    elim (list_any (same y) (q ∷ qs)) as (λ v. head_of (firsts same (cond v (q ∷ qs) (q ∷ (qs ++ y ∷ []))) ys) ≡ Some q) [ true ↦ front-firsts same q qs ys | false ↦ front-firsts same q (qs ++ y ∷ []) ys ]
 
 -- among the values that a function gives along a list, those that pass begin with that of the first element whose value passes
-front-passing : {X Y : Type 0} (passes : Y → Bool) (g : X → Option Y) (x : X) (y : Y) (xs : List X) → find (λ z. option_map_or passes (g z) false) xs ≡ Some x → g x ≡ Some y → front (filter passes (filter_map g xs)) ≡ Some y
+front-passing : {X Y : Type 0} (passes : Y → Bool) (g : X → Option Y) (x : X) (y : Y) (xs : List X) → find (λ z. option_map_or passes (g z) false) xs ≡ Some x → g x ≡ Some y → head_of (filter passes (filter_map g xs)) ≡ Some y
 front-passing passes g x y [] found is = absurd (cc)
 front-passing passes g x y (z ∷ zs) found is =
-    elim (g z) as (λ o. g z ≡ o → cond (option_map_or passes o false) (Some z) (find (λ w. option_map_or passes (g w) false) zs) ≡ Some x → front (filter passes (cons_option o (filter_map g zs))) ≡ Some y) [
+    elim (g z) as (λ o. g z ≡ o → cond (option_map_or passes o false) (Some z) (find (λ w. option_map_or passes (g w) false) zs) ≡ Some x → head_of (filter passes (cons_option o (filter_map g zs))) ≡ Some y) [
       | None ↦ λ _ later. front-passing passes g x y zs later is
-      | Some r ↦ λ here. elim (passes r) as (λ v. cond v (Some z) (find (λ w. option_map_or passes (g w) false) zs) ≡ Some x → front (cond v (r ∷ filter passes (filter_map g zs)) (filter passes (filter_map g zs))) ≡ Some y) [
+      | Some r ↦ λ here. elim (passes r) as (λ v. cond v (Some z) (find (λ w. option_map_or passes (g w) false) zs) ≡ Some x → head_of (cond v (r ∷ filter passes (filter_map g zs)) (filter passes (filter_map g zs))) ≡ Some y) [
         | true ↦ λ first. (let same : z ≡ x = cc in sym here ∙ (ap g same ∙ is))
         | false ↦ λ later. front-passing passes g x y zs later is
       ]
@@ -55,7 +51,7 @@ module _ (barred : List Position) (p : Position) where
       let passing : filter (allowed barred) xs ≡ q ∷ drop 1 (filter (allowed barred) xs) = begins q (filter (allowed barred) xs) (front-passing (allowed barred) (result_of p) steps q turn_lists (sym found) is) in
       let kept : next barred p ≡ firsts same_position [] (filter (allowed barred) xs) =
       ap (filter (allowed barred)) (firsts-is [] xs) ∙ filter-firsts same_position same_position-Decides (allowed barred) [] xs in
-      begins q (next barred p) (ap front kept ∙ (ap (λ l. front (firsts same_position [] l)) passing ∙ front-firsts same_position q [] (drop 1 (filter (allowed barred) xs))))
+      begins q (next barred p) (ap head_of kept ∙ (ap (λ l. head_of (firsts same_position [] l)) passing ∙ front-firsts same_position q [] (drop 1 (filter (allowed barred) xs))))
 
   -- with none
   pub none-next : false ≡ list_any (allowed barred) (results p) → next barred p ≡ []

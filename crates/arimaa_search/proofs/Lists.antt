@@ -21,11 +21,6 @@ module _ {X : Type 0} where
       let sum : length (live_of segments) ≡ length (live_of (below_top segments)) + length qs = ap (λ s. length (live_of s)) is ∙ length-append (live_of (below_top segments)) qs in
       omega arith
 
-  -- the top segment and those below
-  pub two_parts : (segments : List (List X)) → 0 < length segments → segments ≡ top segments ∷ below_top segments
-  two_parts [] some = absurd (omega arith)
-  two_parts (s ∷ below) some = refl
-
   -- a part is no longer than the whole
   pub part_length : (part rest whole : List X) (live first : ℕ) → whole ≡ part ++ rest → live ≡ first + length part → live ≤ first + length whole
   part_length part rest whole live first is count =

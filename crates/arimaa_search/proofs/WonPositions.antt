@@ -45,15 +45,13 @@ any_narrower f g narrower (x ∷ xs) none =
           ap (λ v. v || list_any f xs) here ∙ any_narrower f g narrower xs later)
     ] refl none
 
-heads : {X : Type 0} (x y : X) (xs ys : List X) → x ∷ xs ≡ y ∷ ys → x ≡ y
-heads x y xs ys e = cc
-
 -- where the look went past the first of a part, and the rest of the part has no decisive position, the part has none that is won
 pub none_won : (a : Color) (barred : List Position) (n : ℕ) (p reply : Position) (part rest : List Position) → GoesPast a barred n p reply → next barred p ≡ part ++ rest
     → list_any (is_decisive a barred n p) (drop 1 part) ≡ false → list_any (is_won_by p.side) part ≡ false
 none_won a barred n p reply [] rest past is none = refl
 none_won a barred n p reply (x ∷ xs) rest past is none =
-    let first : x ≡ reply = heads x reply (xs ++ rest) (drop 1 (next barred p)) (sym is ∙ past.0) in
+    let both : x ∷ (xs ++ rest) ≡ reply ∷ drop 1 (next barred p) = sym is ∙ past.0 in
+    let first : x ≡ reply = cc in
     let goes : is_decisive a barred n p x ≡ false = ap (is_decisive a barred n p) first ∙ past.1 in
     any_narrower (is_won_by p.side) (is_decisive a barred n p) (won_decisive a barred n p) (x ∷ xs) (ap (λ v. v || list_any (is_decisive a barred n p) xs) goes ∙ none)
 
