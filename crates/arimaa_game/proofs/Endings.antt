@@ -1,6 +1,6 @@
 -- How a game ends by the rules and by a word, and what a game keeps at hand.
 use Rattle.std.proofs.Common.{◌≡◌, ◌<◌, ◌≤◌, ◌+◌, ℕ, zero, suc, get_or, take, ⊎_elim, length-append, List, [], ◌∷◌, ◌++◌, length, Option, None, Some, false, refl, sym, ap, subst, ◌∙◌, arith, true≢false}
-use Rattle.std.specs.Prelude.{IsNone, IsSome, is_some, ◌↔◌, option_to_list, All, Bool, true, cond, ◌||◌}
+use Rattle.std.specs.Prelude.{IsNone, IsSome, is_some, option_to_list, All, Bool, true, cond, ◌||◌}
 use Rattle.std.specs.List.{filter, list_any}
 use Rattle.std.specs.Option.{option_or}
 use Rattle.std.proofs.Math.Seq.{get_or-append_seam, take-append_seam}
@@ -13,7 +13,8 @@ use Rattle.arimaa_board.specs.declared.ending.Ending.{Ending}
 use Rattle.arimaa_board.specs.declared.ending.Word.{Word}
 use Rattle.arimaa_model.specs.Decided.{decided}
 use Rattle.arimaa_model.specs.Game.{IsLawful, closed_by, ended_for, ending, ending_at, lawful_at, present}
-use Rattle.arimaa_history.proofs.Present.{present-push}
+use Rattle.arimaa_model.proofs.Present.{present-push}
+use Rattle.arimaa_model.proofs.Lists.{or-none}
 use Rattle.arimaa_game.specs.Play.{AreLawful, Play, IsKept, ending_by, ending_of}
 
 -- a position that is decided has ended the game
@@ -69,10 +70,7 @@ running-unclosed g some running = by_word g.closing (ending g.history) (present 
 -- a game that no word has closed ends by the rules
 pub unclosed-ending : (h : List Position) (w : Option Word) → w ≡ None → ending h ≡ ending_of (record { history = h; closing = w })
 unfolding ending_of
-unclosed-ending h w none = sym (rw none (alone (ending h))) where
-  alone : (o : Option Ending) → option_or o None ≡ o
-  alone None = refl
-  alone (Some e) = refl
+unclosed-ending h w none = sym (rw none (or-none (ending h)))
 
 -- a game that the rules had not ended ends by its word
 pub closed-ending : (h : List Position) (p : Position) (w : Word) → present h ≡ Some p → ending h ≡ None → ending_of (record { history = h; closing = Some w }) ≡ Some (closed_by w p.side)

@@ -1,12 +1,11 @@
 -- What a turn brings about in a game, and its first fault.
-use Rattle.std.proofs.Common.{◌≡◌, ◌≤◌, ℕ, List, Option, None, Some, Ok, Err, Bool, true, false, cond, length, reverse, refl, sym, ap, subst, ◌∙◌, rules, nat_le, true≢false}
+use Rattle.std.proofs.Common.{◌≡◌, ◌≤◌, ℕ, List, Option, None, Some, Ok, Err, Bool, true, false, cond, length, reverse, refl, sym, ap, subst, ◌∙◌, rules, nat_le}
 use Rattle.std.specs.Prelude.{Result, IfErr, IsTrue, OnOk, is_some}
 use Rattle.arimaa_board.specs.Fit.{IsFit}
 use Rattle.arimaa_board.specs.Piece.{other_color}
 use Rattle.arimaa_board.specs.declared.piece.Piece.{Piece}
 use Rattle.arimaa_board.specs.declared.position.Position.{Position}
 use Rattle.arimaa_board.specs.declared.position.Step.{Step}
-use Rattle.arimaa_board.specs.declared.ending.Ending.{Ending}
 use Rattle.arimaa_model.specs.declared.fault.ApplyFault.{ApplyFault}
 use Rattle.arimaa_model.specs.declared.fault.StepFault.{StepFault}
 use Rattle.arimaa_model.specs.declared.fault.TurnFault.{TurnFault}

@@ -17,7 +17,8 @@ abbrev pub IsFaultOf : {V : Type 0} → Result V GameFault → GameFault → Typ
 IsFaultOf (Err e) fault = fault ≡ e
 IsFaultOf (Ok v) fault = fault ≡ faults.Memory
 
--- the rule that a turn breaks by a fault: none where the game has ended or memory is wanting; a fault of takebacks alone breaks none either
+-- the rule that a turn breaks by a fault: none where the game has ended or memory is wanting; a
+-- fault of takebacks alone breaks none either
 abbrev pub rule_broken : GameFault → Option FirstFault
 rule_broken faults.Over = None
 rule_broken faults.NoTurn = None

@@ -45,7 +45,8 @@ ending_by (Some word) (Some p) = Some (closed_by word p.side)
 unfoldable pub ending_of : Play → Option Ending
 ending_of g = option_or (ending g.history) (ending_by g.closing (present g.history))
 
--- the position that a turn reaches, which may not stand for the third time, or the fault of the turn
+-- the position that a turn reaches, which may not stand for the third time, or the fault of the
+-- turn
 abbrev pub unless_third : List Position → Result Position ApplyFault → Result Position GameFault
 unless_third h (Err e) = Err (fault_of e)
 unless_third h (Ok q) = if nat_le 2 (count_in h q) then Err faults.Repeat else Ok q
@@ -55,11 +56,14 @@ abbrev pub turned : List Position → Option Position → List Step → Result P
 turned h None steps = Err faults.Over
 turned h (Some p) steps = unless_third h (applied p steps)
 
--- what a turn brings about in a game, or its first fault: that the game has ended comes before all others
+-- what a turn brings about in a game, or its first fault: that the game has ended comes before all
+-- others
 unfoldable pub played : Play → List Step → Result Position GameFault
-played g steps = if is_some (ending_of g) then Err faults.Over else turned g.history (present g.history) steps
+played g steps =
+    if is_some (ending_of g) then Err faults.Over else turned g.history (present g.history) steps
 
--- what a turn with marks that are right or not brings about: wrong marks are a fault that comes after an ended game and a step that is refused, and before all others
+-- what a turn with marks that are right or not brings about: wrong marks are a fault that comes
+-- after an ended game and a step that is refused, and before all others
 abbrev pub unless_marked : Bool → Result Position GameFault → Result Position GameFault
 unless_marked true r = r
 unless_marked false (Err faults.Over) = Err faults.Over
@@ -73,13 +77,18 @@ has_right_marks (Some p) noted = marks_right p.board (noted_turn noted) (noted_m
 
 -- what a turn with marks brings about in a game, or its first fault
 abbrev pub played_noted : Play → List NotedStep → Result Position GameFault
-played_noted g noted = unless_marked (has_right_marks (present g.history) noted) (played g (noted_turn noted))
+played_noted g noted =
+    unless_marked (has_right_marks (present g.history) noted) (played g (noted_turn noted))
 
--- each position but the first follows on a game that had not ended, and in which a turn may bring it about
+-- each position but the first follows on a game that had not ended, and in which a turn may bring
+-- it about
 abbrev pub AreLawful : List Position → Type 0
-AreLawful h = (k : ℕ) (d : Position) → 0 < k → k < length h → (ending (take k h) ≡ None) × IsLawful (take k h) (slice_index_or h k d)
+AreLawful h =
+    (k : ℕ) (d : Position) → 0 < k → k < length h
+    → (ending (take k h) ≡ None) × IsLawful (take k h) (slice_index_or h k d)
 
--- what holds of every game: there is a present position, each board is fit, each later position is lawful, and a word closed only what the rules had not ended
+-- what holds of every game: there is a present position, each board is fit, each later position is
+-- lawful, and a word closed only what the rules had not ended
 pub record IsGame (g : Play) : Type 0 where
   pub some : IsSome (present g.history)
   pub fit : All (λ q. IsFit q.board) g.history
@@ -111,7 +120,8 @@ pub record BringsAbout (g : Play) (p : Position) (steps : List Step) (q : Positi
 
 -- a game has gone on by a turn: what the turn brings about stands at the end
 abbrev pub GoesOn : Play → List Step → Play → Type 0
-GoesOn old steps new = (p : Position) × (q : Position) × BringsAbout old p steps q × (new ≡ grown old q)
+GoesOn old steps new =
+    (p : Position) × (q : Position) × BringsAbout old p steps q × (new ≡ grown old q)
 
 -- the number of turns that stand in a game: each position but the first was brought about by one
 abbrev pub turns_in : List Position → ℕ
