@@ -6,6 +6,7 @@ use Rattle.std.specs.List.Sorted.{IsPermutation, IsNonDecreasingBy}
 use Rattle.std.proofs.lemmas.Bool.{cases_lt}
 use Rattle.std.proofs.lemmas.List.{map-append, take-map, length-map, take_more_set, length-set, get_or-map, append-nil}
 use Rattle.std.proofs.lemmas.List.Sorted.{IsPermutation-sym, IsPermutation-trans}
+use Rattle.std.proofs.Math.Seq.{take-append_seam}
 use Rattle.arimaa_board.specs.declared.piece.Color.{Color}
 use Rattle.arimaa_board.specs.declared.piece.Color.TheVariants.{Gold, Silver}
 use Rattle.arimaa_board.specs.declared.piece.Kind.{Kind}
@@ -22,7 +23,7 @@ use Rattle.arimaa_notation.specs.Written.{text_of_entry, items_of_entries}
 use Rattle.arimaa_notation.specs.Grammar.{AreEntries, IsFirstBadEntry, AreNoSetup, IsSetupReading}
 use Rattle.arimaa_notation.proofs.LetterLaws.{same_entry}
 use Rattle.arimaa_notation.proofs.WrittenLaws.{size-lineup}
-use Rattle.arimaa_notation.proofs.TurnReading.{take_front, take_front_one, take_less}
+use Rattle.arimaa_notation.proofs.TurnReading.{take_front_one, take_less}
 
 abbrev Entry : Type 0
 Entry = ℕ × Piece
@@ -79,7 +80,7 @@ midst-fault bytes text es entries count item rest h next none =
     let all : items_of bytes ≡ items_of_entries es ++ item ∷ rest = h.items ∙ ap (λ x. items_of_entries es ++ x) next in
     let place : count + 1 - 1 ≡ length (items_of_entries es) = omega (arith, h.numbered, size-entries es) in
     let more : count + 1 ≡ suc (length (items_of_entries es)) = omega (arith, h.numbered, size-entries es) in
-    let front : take (count + 1 - 1) (items_of bytes) ≡ items_of_entries es = ap (λ k. take k (items_of bytes)) place ∙ (ap (take (length (items_of_entries es))) all ∙ take_front (items_of_entries es) (item ∷ rest)) in
+    let front : take (count + 1 - 1) (items_of bytes) ≡ items_of_entries es = ap (λ k. take k (items_of bytes)) place ∙ (ap (take (length (items_of_entries es))) all ∙ take-append_seam (items_of_entries es) (item ∷ rest)) in
     let front_one : take (count + 1) (items_of bytes) ≡ items_of_entries es ++ item ∷ [] = ap (λ k. take k (items_of bytes)) more ∙ (ap (take (suc (length (items_of_entries es)))) all ∙ take_front_one (items_of_entries es) item rest) in
     record {
       before = (es, record { spelled = front; on_board = h.on_board });

@@ -5,6 +5,7 @@ use Rattle.std.specs.List.{AllByRecursion}
 use Rattle.std.proofs.lemmas.Bool.{cases_lt}
 use Rattle.std.proofs.lemmas.List.{append-nil}
 use Rattle.std.proofs.lemmas.Grind.{flat_map-append}
+use Rattle.std.proofs.Math.Seq.{take-append_seam}
 use Rattle.arimaa_board.specs.declared.piece.Piece.{Piece}
 use Rattle.arimaa_board.specs.declared.position.Step.{Step}
 use Rattle.arimaa_board.specs.declared.turn.NotedStep.{NotedStep}
@@ -25,11 +26,6 @@ pub record Midst (bytes text : List ℕ) (ns kept : List NotedStep) (count numbe
   pub numbered : number ≡ length (items_of_turn ns)
   pub fits : number + length text ≤ length bytes
   pub fewer : count ≤ number
-
--- the first of a list, and one more
-pub take_front : {X : Type 0} (xs ys : List X) → take (length xs) (xs ++ ys) ≡ xs
-take_front [] ys = refl
-take_front (x ∷ xs) ys = ap (λ z. x ∷ z) (take_front xs ys)
 
 pub take_front_one : {X : Type 0} (xs : List X) (y : X) (ys : List X) → take (suc (length xs)) (xs ++ y ∷ ys) ≡ xs ++ y ∷ []
 take_front_one [] y ys = refl
@@ -54,7 +50,7 @@ midst-fault bytes text ns kept count number item rest h next no_step =
     let all : items_of bytes ≡ items_of_turn ns ++ item ∷ rest = h.items ∙ ap (λ x. items_of_turn ns ++ x) next in
     let place : number + 1 - 1 ≡ length (items_of_turn ns) = omega (arith, h.numbered) in
     let more : number + 1 ≡ suc (length (items_of_turn ns)) = omega (arith, h.numbered) in
-    let front : take (number + 1 - 1) (items_of bytes) ≡ items_of_turn ns = ap (λ k. take k (items_of bytes)) place ∙ (ap (take (length (items_of_turn ns))) all ∙ take_front (items_of_turn ns) (item ∷ rest)) in
+    let front : take (number + 1 - 1) (items_of bytes) ≡ items_of_turn ns = ap (λ k. take k (items_of bytes)) place ∙ (ap (take (length (items_of_turn ns))) all ∙ take-append_seam (items_of_turn ns) (item ∷ rest)) in
     let front_one : take (number + 1) (items_of bytes) ≡ items_of_turn ns ++ item ∷ [] = ap (λ k. take k (items_of bytes)) more ∙ (ap (take (suc (length (items_of_turn ns)))) all ∙ take_front_one (items_of_turn ns) item rest) in
     inr (record {
       before = (ns, record { spelled = front; on_board = h.on_board });

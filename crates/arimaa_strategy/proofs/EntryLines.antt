@@ -1,7 +1,7 @@
 -- A line of an entry has one reading.
 use Rattle.std.proofs.Common.{◌≡◌, ℕ, List, [], ◌∷◌, ◌++◌, take, drop, get_or, sym, ◌∙◌, ap, subst, arith, inl, inr, refl, Option, None, Some, Ok, Result}
 use Rattle.std.specs.Fmt.{decimal}
-use Rattle.std.proofs.Math.Seq.{drop-append_seam}
+use Rattle.std.proofs.Math.Seq.{drop-append_seam, take-append_seam}
 use Rattle.std.proofs.lemmas.List.{take-append-drop}
 use Rattle.std.proofs.lemmas.Fmt.{decimal_injective, decimal_is_IsNumeral}
 use Rattle.std.proofs.lemmas.Str.Parse.{digit_at}
@@ -15,7 +15,7 @@ use Rattle.arimaa_notation.specs.declared.fault.NoteFault.{NoteFault}
 use Rattle.arimaa_notation.specs.Items.{items_of, IsFirstItem}
 use Rattle.arimaa_notation.specs.Grammar.{IsTurnText, IsTurnReading}
 use Rattle.arimaa_notation.proofs.ItemLaws.{items-first}
-use Rattle.arimaa_notation.proofs.TurnReading.{take_front, one_reading}
+use Rattle.arimaa_notation.proofs.TurnReading.{one_reading}
 use Rattle.arimaa_notation.specs.Items.{without_first_blanks}
 use Rattle.arimaa_record.specs.Grammar.{IsBlankLine}
 use Rattle.arimaa_record.proofs.FormLaws.{head_same, same_first}
@@ -24,7 +24,7 @@ use Rattle.arimaa_strategy.specs.Text.{IsBoardAndTurn, IsEntryText, IsLineOf}
 
 -- the board's text is the first 66 bytes after the blanks, and the turn's text is what follows
 pub front_of : (rest : List ℕ) (b : Board) (ns : List NotedStep) (h : IsBoardAndTurn rest b ns) → h.board ≡ take 66 (without_first_blanks rest)
-front_of rest b ns h = sym (take_front h.board h.turn) ∙ (ap (λ n. take n (h.board ++ h.turn)) h.shown.size ∙ ap (take 66) (sym h.cut))
+front_of rest b ns h = sym (take-append_seam h.board h.turn) ∙ (ap (λ n. take n (h.board ++ h.turn)) h.shown.size ∙ ap (take 66) (sym h.cut))
 
 pub back_of : (rest : List ℕ) (b : Board) (ns : List NotedStep) (h : IsBoardAndTurn rest b ns) → h.turn ≡ drop 66 (without_first_blanks rest)
 back_of rest b ns h = sym (drop-append_seam h.board h.turn) ∙ (ap (λ n. drop n (h.board ++ h.turn)) h.shown.size ∙ ap (drop 66) (sym h.cut))

@@ -2,7 +2,7 @@
 use Rattle.std.proofs.Common.{◌≡◌, ℕ, suc, List, [], ◌∷◌, ◌++◌, map, Option, None, Some, Bool, true, false, cond, ◌&&◌, is_some, refl, sym, ◌∙◌, ap, subst, true≢false, eq-eqb, eqb-true}
 use Rattle.std.specs.Prelude.{◌==◌}
 use Rattle.std.specs.List.{list_all}
-use Rattle.std.proofs.lemmas.Bool.{and_from}
+use Rattle.std.proofs.lemmas.Bool.{and_from, and_parts}
 use Rattle.std.proofs.lemmas.List.{map-append}
 use Rattle.arimaa_board.specs.declared.piece.Color.{Color}
 use Rattle.arimaa_board.specs.Board.{same_color}
@@ -12,6 +12,7 @@ use Rattle.arimaa_model.specs.Decided.{decided}
 use Rattle.arimaa_model.specs.Results.{stands_in, next}
 use Rattle.arimaa_model.specs.Ranks.{above}
 use Rattle.arimaa_model.specs.Strategies.{Planned, result_at, find_entry}
+use Rattle.arimaa_model.proofs.Lists.{is_some-None}
 use Rattle.arimaa_forced.specs.declared.entry.Entry.{Entry}
 use Rattle.arimaa_forced.specs.Acceptance.{is_win_of, s_rank, is_covered, answered_for, IsGood, AreGood}
 use Rattle.arimaa_forced.specs.Entries.{planned_of, has_right_marks}
@@ -32,10 +33,6 @@ no_fault_else false o w e = let wrong : true ≡ false = cc in absurd (true≢fa
 fault_free : (t : Bool) (w : Why) (o : Option Why) → t ≡ false → o ≡ None → cond t (Some w) o ≡ None
 fault_free t w o fails rest = rw fails rest
 
-is_none : {X : Type 0} (o : Option X) → is_some o ≡ false → o ≡ None
-is_none None h = refl
-is_none (Some x) h = absurd (true≢false h)
-
 not_both : {X : Type 0} (x : X) → ◌≡◌ {A = Option X} None (Some x) → ⊥
 not_both x e = let wrong : true ≡ false = cc in true≢false wrong
 
@@ -44,10 +41,6 @@ rank_exact rank q h = eqb-true rank (suc q) (elim (rank == suc q) as (λ v. cond
 
 exact_rank : (rank q : ℕ) → rank ≡ suc q → rank_fault rank q ≡ None
 exact_rank rank q h = rw (eq-eqb rank (suc q) h) refl
-
-and_parts : (x y : Bool) → x && y ≡ true → (x ≡ true) × (y ≡ true)
-and_parts true y h = (refl, h)
-and_parts false y h = absurd (true≢false (sym h))
 
 module _ (a : Color) (barred : List Position) (s : List Planned) where
   by_good : (rank : ℕ) (r : Position) (o : Option Ending) → fault_by a barred s rank r o ≡ None → (answered_for a barred s r o ≡ true) × (rank ≡ suc (cond (is_win_of a o) 0 (above (map (s_rank a s) (next barred r)))))
@@ -111,7 +104,7 @@ module _ (a : Color) (barred : List Position) (s : List Entry) where
   faultless_good earlier e h =
       let p1 = no_fault (is_some (find_entry (plan_of earlier) e.position)) why.Twice _ h in
       let p2 = no_fault (is_some (decided e.position)) why.Decided _ p1.1 in
-      good_after earlier e (led_to barred e) refl (is_none (find_entry (plan_of earlier) e.position) p1.0) (is_none (decided e.position) p2.0) p2.1
+      good_after earlier e (led_to barred e) refl (is_some-None (find_entry (plan_of earlier) e.position) p1.0) (is_some-None (decided e.position) p2.0) p2.1
 
   good_faultless : (earlier : List Entry) (e : Entry) → Good earlier e → fault_of a barred s earlier e ≡ None
   unfolding fault_of

@@ -7,3 +7,4 @@ pub mod Looks
 pub mod Ranks
 pub mod FaultLaws
 pub mod CheckLaws
+pub mod NotedTurns
