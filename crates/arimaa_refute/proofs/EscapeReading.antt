@@ -8,6 +8,7 @@ use Rattle.arimaa_board.specs.Piece.{other_color}
 use Rattle.arimaa_record.specs.Lines.{lines_of}
 use Rattle.arimaa_record.specs.Grammar.{IsBlankLine}
 use Rattle.arimaa_record.proofs.FormLaws.{head_same, tail_same}
+use Rattle.arimaa_record.proofs.PlainLaws.{all_more}
 use Rattle.arimaa_forced.specs.declared.entry.Entry.{Entry}
 use Rattle.arimaa_strategy.specs.Text.{AreLinesOf, IsStrategyText}
 use Rattle.arimaa_strategy.specs.WrittenForm.{IsWritable}
@@ -42,10 +43,6 @@ pub map-more : (c : List Escape) (e : Escape) → map entry_of (c ++ e ∷ []) �
 map-more [] e = refl
 map-more (x ∷ c) e = ap (λ l. entry_of x ∷ l) (map-more c e)
 
-pub all-more : {X : Type 0} (P : X → Type 0) (xs : List X) (x : X) → AllByRecursion P xs → P x → AllByRecursion P (xs ++ x ∷ [])
-all-more P [] x all one = (one, tt)
-all-more P (y ∷ xs) x all one = (all.0, all-more P xs x all.1 one)
-
 module _ (a : Color) where
   -- lines that say entries with the depths of escapes are good
   good-lines : (lines : List (List ℕ)) (os : List (Option Entry)) → AreLinesOf (other_color a) lines os → DeepEntries (said_entries os) → AllByRecursion (IsGoodLine a) lines
@@ -72,7 +69,7 @@ module _ (a : Color) where
       → IsEscapeText line a e → more ≡ c ++ e ∷ [] → Midst bytes rest more (number + 1)
   escapes-more bytes text line rest c more number e h next shorter one is = record {
     passed = midst-more (other_color a) bytes text line rest (map entry_of c) (map entry_of more) number (Some (entry_of e)) h.passed next shorter one.entry (ap (λ (l : List Escape). map entry_of l) is ∙ map-more c e);
-    depths = subst (λ (l : List Escape). AllByRecursion HasDepth l) (sym is) (all-more HasDepth c e h.depths one.depth);
+    depths = subst (λ (l : List Escape). AllByRecursion HasDepth l) (sym is) (all_more HasDepth c e h.depths one.depth);
   }
 
   -- one more line that says nothing

@@ -9,6 +9,7 @@ use Rattle.arimaa_board.specs.declared.position.Position.{Position}
 use Rattle.arimaa_board.specs.declared.ending.Ending.{Ending}
 use Rattle.arimaa_model.specs.Decided.{decided}
 use Rattle.arimaa_model.specs.Results.{stands_in, next}
+use Rattle.arimaa_model.proofs.Lists.{is_some-None}
 use Rattle.arimaa_strategy.specs.Faults.{led_to}
 use Rattle.arimaa_strategy.proofs.FaultLaws.{leads, led}
 use Rattle.arimaa_refute.specs.declared.escape.Escape.{Escape}
@@ -28,10 +29,6 @@ flaw_free t w o fails rest = rw fails rest
 
 not_both : (w : Flaw) → ◌≡◌ {A = Option Flaw} (Some w) None → ⊥
 not_both w e = let wrong : true ≡ false = cc in true≢false wrong
-
-pub is_none : {X : Type 0} (o : Option X) → is_some o ≡ false → o ≡ None
-is_none None h = refl
-is_none (Some x) h = absurd (true≢false h)
 
 sides-apart : (a s : Color) → s ≡ other_color a → s ≢ a
 sides-apart Gold s is same = let wrong : true ≡ false = ap (λ c. same_color c Gold) (sym same ∙ is) in true≢false wrong
@@ -81,7 +78,7 @@ module _ (a : Color) (barred : List Position) (c : List Escape) where
   flawless-good earlier e from h =
       let p1 = no_flaw (stands_in (positions_of earlier) e.position) flaw.Twice _ h in
       let p2 = no_flaw (is_some (decided e.position)) flaw.Decided _ p1.1 in
-      after-good earlier e (led_to barred (entry_of e)) refl from p1.0 (is_none (decided e.position) p2.0) p2.1
+      after-good earlier e (led_to barred (entry_of e)) refl from p1.0 (is_some-None (decided e.position) p2.0) p2.1
 
   good-flawless : (earlier : List Escape) (e : Escape) → IsGoodEscape a barred c earlier e → flaw_of a barred c earlier e ≡ None
   unfolding flaw_of

@@ -1,7 +1,7 @@
 -- Escapes are made level by level.
 use Rattle.std.proofs.Common.{◌≡◌, ℕ, zero, suc, ◌+◌, ◌-◌, ◌<◌, ◌≤◌, List, [], ◌∷◌, ◌++◌, length, map, take, drop, get_or, Option, None, Some, true, false, cond, inl, inr, refl, sym, ◌∙◌, ap, subst, arith, append_assoc, length-append}
 use Rattle.std.specs.List.{AllByRecursion, flat_map}
-use Rattle.std.proofs.Math.Seq.{drop-append_seam}
+use Rattle.std.proofs.Math.Seq.{drop-append_seam, take-append_seam}
 use Rattle.std.proofs.lemmas.List.{append-nil, take-append-drop, drop_more, drop_all}
 use Rattle.arimaa_board.specs.declared.position.Position.{Position}
 use Rattle.arimaa_model.specs.Decided.{decided}
@@ -31,10 +31,6 @@ all-at : {X : Type 0} (P : X → Type 0) (x : X) (xs : List X) → AllByRecursio
 all-at P x [] all i = absurd i
 all-at P x (y ∷ xs) all (inl e) = subst P (sym e) all.0
 all-at P x (y ∷ xs) all (inr i) = all-at P x xs all.1 i
-
-take-front : {X : Type 0} (xs ys : List X) → take (length xs) (xs ++ ys) ≡ xs
-take-front [] ys = refl
-take-front (x ∷ xs) ys = ap (λ l. x ∷ l) (take-front xs ys)
 
 -- first occurrences are the list and then what is fresh
 pub first-fresh : (qs ps : List Position) → first_occurrences qs ps ≡ qs ++ fresh qs ps
@@ -182,7 +178,7 @@ module _ (t : Terms) where
         let later : List Position = fresh queue (flat_map (met_after t.attacker t.barred k) new) in
         let joined : met ++ new ≡ queue = take-append-drop start queue in
         let next_split : nexts ≡ queue ++ later = next_is ∙ first-fresh queue (flat_map (met_after t.attacker t.barred k) new) in
-        let front : take (length queue) nexts ≡ queue = ap (take (length queue)) next_split ∙ take-front queue later in
+        let front : take (length queue) nexts ≡ queue = ap (take (length queue)) next_split ∙ take-append_seam queue later in
         let back : drop (length queue) nexts ≡ later = ap (drop (length queue)) next_split ∙ drop-append_seam queue later in
         let rest : List Position → List Escape = λ l. escapes_from t.attacker t.barred (k - 1) l (fresh l (flat_map (met_after t.attacker t.barred k) new)) in
         record {

@@ -6,6 +6,5 @@ pub mod Waiting
 pub mod FlawLaws
 pub mod VerifyLaws
 pub mod FirstEvasions
-pub mod Noting
 pub mod Levels
 pub mod RefutationLaws

@@ -23,7 +23,8 @@ use Rattle.arimaa_refute.specs.declared.place.Place.{Place}
 use Rattle.arimaa_refute.specs.Escapes.{entry_of, has_escape}
 use Rattle.arimaa_refute.specs.Flaws.{positions_of}
 use Rattle.arimaa_refute.specs.Places.{depth_of, place_with, place_in, AreKept}
-use Rattle.arimaa_refute.proofs.EscapeReading.{map-more, all-more}
+use Rattle.arimaa_refute.proofs.EscapeReading.{map-more}
+use Rattle.arimaa_record.proofs.PlainLaws.{all_more}
 
 -- ---- among the first ones
 
@@ -146,7 +147,7 @@ place-more c e q =
 pub kept-more : {S : Type 0} (c : List Escape) (e : Escape) (old new : HashMap Key Place S) → AreKept c old → position_at (key_of e.position) ≡ e.position → 0 < length e.turn
     → ((k : Key) → get same_key new k ≡ cond (same_key (key_of e.position) k) (Some (place_with (get same_key old (key_of e.position)) (length c) e.depth)) (get same_key old k)) → AreKept (c ++ e ∷ []) new
 kept-more c e old new kept back some filed = record {
-  steps = all-more (λ (x : Escape). 0 < length x.turn) c e kept.steps some;
+  steps = all_more (λ (x : Escape). 0 < length x.turn) c e kept.steps some;
   placed = λ q q_back.
       filed (key_of q)
       ∙ ((λ i. cond (keys_same e.position q back q_back i) (Some (place_with (kept.placed e.position back i) (length c) e.depth)) (kept.placed q q_back i))

@@ -1,13 +1,12 @@
 -- What the answer of a maker of escapes means.
-use Rattle.std.proofs.Common.{◌≡◌, ℕ, zero, suc, ◌+◌, ◌-◌, ◌<◌, ◌≤◌, List, [], ◌∷◌, length, drop, None, Some, Bool, true, false, cond, is_none, inl, inr, ⊎_elim, refl, sym, ◌∙◌, ap, subst, arith, eqb-true, true≢false}
-use Rattle.std.specs.Prelude.{◌==◌, is_some, IfOk, OnOk, Result, Ok, Err}
+use Rattle.std.proofs.Common.{◌≡◌, ℕ, zero, suc, ◌+◌, ◌-◌, ◌<◌, ◌≤◌, List, [], ◌∷◌, drop, None, Some, Bool, true, false, cond, is_none, inl, inr, ⊎_elim, refl, sym, ◌∙◌, ap, subst, arith, eqb-true, true≢false}
+use Rattle.std.specs.Prelude.{◌==◌, IfOk, OnOk, Result, Ok, Err}
 use Rattle.std.specs.List.{filter, find, slice_get}
 use Rattle.std.proofs.lemmas.Bool.{false_from_ne_true}
 use Rattle.arimaa_board.specs.declared.piece.Color.{Color}
 use Rattle.arimaa_board.specs.Board.{same_color}
 use Rattle.arimaa_board.specs.declared.position.Position.{Position}
 use Rattle.arimaa_model.specs.Decided.{decided}
-use Rattle.arimaa_model.specs.Game.{present}
 use Rattle.arimaa_model.specs.Members.{Stands}
 use Rattle.arimaa_model.specs.Results.{first_occurrences, next}
 use Rattle.arimaa_model.specs.Wins.{wins}
@@ -160,9 +159,3 @@ answer-same {E} r t a barred budget room p n own bars spend places told =
     let H : ℕ → Type 0 = λ x. IfOk r (IsRefuted t.attacker t.barred x room p n) in
     let I : ℕ → Type 0 = λ x. IfOk r (IsRefuted t.attacker t.barred t.budget x p n) in
     subst F own (subst G bars (subst H spend (subst I places told)))
-
--- there is a present position
-pub present-some : (h : List Position) → 1 ≤ length h → is_some (present h) ≡ true
-present-some [] some = absurd (omega arith)
-present-some (p ∷ []) some = refl
-present-some (p ∷ q ∷ h) some = present-some (q ∷ h) (omega arith)

@@ -3,8 +3,8 @@ use Rattle.arimaa_refute.specs.declared.escape.Escape.{Escape}
 use Rattle.arimaa_refute.specs.OwnEscapes.{first_evasion}
 use Rattle.arimaa_refute.specs.Refutations.{Terms, IsBelow}
 use Rattle.arimaa_refute.proofs.Levels.{evasion-below}
-use Rattle.arimaa_refute.proofs.Noting.{marked-steps}
 use Rattle.arimaa_refute.proofs.maker.escape_from.Goals as goal
+use Rattle.arimaa_strategy.proofs.NotedTurns.{marked-steps}
 
 pub push-requires : goal.push-requires
 push-requires c =

@@ -1,9 +1,9 @@
 use Rattle.std.proofs.Common.{◌≡◌, ◌<◌, length, false, is_some, sym, ◌∙◌, ap, arith}
 use Rattle.arimaa_model.specs.Decided.{decided}
 use Rattle.arimaa_model.specs.Results.{next}
+use Rattle.arimaa_model.proofs.Lists.{is_some-None}
 use Rattle.arimaa_region.specs.Segments.{live_of}
 use Rattle.arimaa_refute.specs.Refutations.{Terms}
-use Rattle.arimaa_refute.proofs.FlawLaws.{is_none}
 use Rattle.arimaa_refute.proofs.Levels.{long-crowd}
 use Rattle.arimaa_refute.proofs.queue.meet_replies.Goals as goal
 
@@ -16,4 +16,4 @@ returns-in-Err-clause-failure c =
     let full = c.in-Err.ensures.full in
     let room = c.requires.room in
     let long : t.room < length (next t.barred c.args.r.now) = omega arith in
-    (c.requires.below, long-crowd t c.args.turns c.args.r.now (is_none (decided c.args.r.now) none) c.requires.some long)
+    (c.requires.below, long-crowd t c.args.turns c.args.r.now (is_some-None (decided c.args.r.now) none) c.requires.some long)
