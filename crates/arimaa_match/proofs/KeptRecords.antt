@@ -1,5 +1,5 @@
 -- The record of a match between two answers, and at its end.
-use Rattle.std.proofs.Common.{◌≡◌, ◌∙◌, ◌++◌, ◌+◌, ◌≤◌, ◌<◌, ℕ, true, false, List, [], ◌∷◌, Option, None, Some, Ok, ap, arith, length, refl, reverse, rules, sym, true≢false}
+use Rattle.std.proofs.Common.{◌≡◌, ◌∙◌, ◌++◌, ◌+◌, ◌≤◌, ◌<◌, ℕ, true, false, List, [], ◌∷◌, Option, None, Some, Ok, ap, arith, length, refl, reverse, rules, sym, true≢false, eq-eqb}
 use Rattle.std.specs.Prelude.{not, nat_lt, ◌==◌}
 use Rattle.std.specs.List.{AllByRecursion}
 use Rattle.std.proofs.lemmas.Bool.Decides.{nat_tests}
@@ -7,25 +7,26 @@ use Rattle.arimaa_board.specs.declared.piece.Color.{Color}
 use Rattle.arimaa_board.specs.declared.piece.Color.TheVariants.{Gold, Silver}
 use Rattle.arimaa_board.specs.declared.position.Position.{Position}
 use Rattle.arimaa_board.specs.declared.turn.NotedStep.{NotedStep}
-use Rattle.arimaa_board.specs.Board.{same_color}
 use Rattle.arimaa_board.specs.Noted.{noted_turn}
 use Rattle.arimaa_board.specs.Piece.{other_color}
 use Rattle.arimaa_board.specs.Setup.{Lineup}
 use Rattle.arimaa_board.specs.declared.ending.Ending.{Ending}
 use Rattle.arimaa_board.specs.declared.ending.Word.{Word}
+use Rattle.arimaa_board.specs.ColorLaws.{same_color-refl}
 use Rattle.arimaa_model.specs.Faults.{reached_by}
 use Rattle.arimaa_model.specs.Game.{closed_by, ending, present}
 use Rattle.arimaa_model.specs.Wins.{is_nil}
-use Rattle.arimaa_history.proofs.Present.{present-push}
+use Rattle.arimaa_model.proofs.Present.{present-push}
 use Rattle.arimaa_record.specs.declared.label.Label.{Label}
 use Rattle.arimaa_record.specs.declared.line.RecordLine.{RecordLine}
 use Rattle.arimaa_record.specs.declared.line.RecordLine.TheVariants as line
 use Rattle.arimaa_record.specs.Label.{label_after, label_of, next_label}
 use Rattle.arimaa_record.specs.Written.{IsInRange, IsWritable}
+use Rattle.arimaa_record.proofs.PlainLaws.{all_more}
 use Rattle.arimaa_judge.specs.RecordState.{RecordState, after_line, before_lines, declared_or, is_playing, side_due as side_to_move, state_ending, with_bare, with_closing, with_setup_after, with_turn}
 use Rattle.arimaa_judge.specs.Rules.{rule_at, rule_of_line}
 use Rattle.arimaa_match.specs.Records.{AreAccepted}
-use Rattle.arimaa_match.proofs.RecordLaws.{accepted_more, all_more}
+use Rattle.arimaa_match.proofs.RecordLaws.{accepted_more}
 
 -- the side that is due is the one to move; before there is a position it is Silver where Gold's
 -- setup stands, and else Gold
@@ -50,13 +51,6 @@ pub record IsLastRecord (lines : List RecordLine) (ended : Option Ending) : Type
   pub last : RecordState
   pub accepted : AreAccepted before_lines lines last
   pub ending : state_ending last ≡ ended
-
-pub same_side : (side : Color) → same_color side side ≡ true
-same_side Gold = refl
-same_side Silver = refl
-
-pub same_number : (n : ℕ) → (n == n) ≡ true
-same_number n = search rules
 
 open_rule : (s : RecordState) (l : RecordLine) → s.closed ≡ false → rule_of_line s l ≡ None
     → rule_at s (Ok l) ≡ None
@@ -125,7 +119,7 @@ module _ (lines : List RecordLine) (s : RecordState) (k : ℕ) (kept : IsBookedR
   }
 
   bare_rule : rule_of_line s (line.Bare s.due.number s.due.side) ≡ None
-  bare_rule = rw (same_number s.due.number, same_side s.due.side) refl
+  bare_rule = rw (eq-eqb s.due.number s.due.number refl, same_color-refl s.due.side) refl
 
   -- a label alone ends the record
   pub bare_last : ending s.history ≡ None
@@ -140,7 +134,7 @@ module _ (lines : List RecordLine) (s : RecordState) (k : ℕ) (kept : IsBookedR
 
   closing_rule : (word : Word) → ending s.history ≡ None
       → rule_of_line s (line.Closing s.due.number s.due.side word) ≡ None
-  closing_rule word running = rw (same_number s.due.number, same_side s.due.side, running) refl
+  closing_rule word running = rw (eq-eqb s.due.number s.due.number refl, same_color-refl s.due.side, running) refl
 
   -- a word ends the record: the side that is due has lost
   pub closing_last : (word : Word) → ending s.history ≡ None
@@ -184,7 +178,7 @@ module _ (lines : List RecordLine) (s : RecordState) (k : ℕ) (kept : IsBookedR
   setup_rule : (setup : Lineup) → is_playing s ≡ false → ending s.history ≡ None
       → rule_of_line s (line.Setup s.due.number s.due.side setup) ≡ None
   setup_rule setup before running =
-      rw (same_number s.due.number, same_side s.due.side, running, before) refl
+      rw (eq-eqb s.due.number s.due.number refl, same_color-refl s.due.side, running, before) refl
 
   -- what a setup leaves of the record, where Gold's stands or does not
   record IsPlacedSo (t : RecordState) : Type 0 where

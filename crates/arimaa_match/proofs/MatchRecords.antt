@@ -1,7 +1,8 @@
 -- The record of a match is one that the judge accepts.
-use Rattle.std.proofs.Common.{◌≡◌, ◌++◌, ◌+◌, ◌≤◌, ◌<◌, ℕ, zero, suc, Bool, true, false, List, [], ◌∷◌, Option, None, Some, Result, Ok, Err, ap, arith, cond, length, refl, subst}
+use Rattle.std.proofs.Common.{◌≡◌, ◌++◌, ◌+◌, ◌≤◌, ◌<◌, ℕ, zero, suc, Bool, true, false, List, [], ◌∷◌, Option, None, Some, Result, Ok, Err, ap, arith, cond, length, refl, subst, eq-eqb}
 use Rattle.std.specs.Prelude.{IfOk, is_some, option_map}
 use Rattle.std.specs.declared.alloc.AllocError.{AllocError}
+use Rattle.std.proofs.lemmas.Option.{same_Some}
 use Rattle.arimaa_board.specs.declared.board.Board.{Board}
 use Rattle.arimaa_board.specs.declared.position.Position.{Position}
 use Rattle.arimaa_board.specs.declared.turn.NotedStep.{NotedStep}
@@ -11,6 +12,7 @@ use Rattle.arimaa_board.specs.Noted.{noted_turn}
 use Rattle.arimaa_board.specs.Setup.{Lineup}
 use Rattle.arimaa_board.specs.declared.ending.Ending.{Ending}
 use Rattle.arimaa_board.specs.declared.ending.Word.TheVariants as word
+use Rattle.arimaa_board.specs.ColorLaws.{same_color-refl}
 use Rattle.arimaa_model.specs.Game.{ending, present}
 use Rattle.arimaa_model.specs.Marks.{marks_of}
 use Rattle.arimaa_notation.specs.Readers.{setup_of_text, turn_of_text}
@@ -46,7 +48,7 @@ use Rattle.arimaa_match.specs.Match.{Finished, Thought, Turned, after_announcing
 use Rattle.arimaa_match.specs.Parts.{Coming, Part, Ran, Scene, Went, and_then, done, going_on, joined, with_engine}
 use Rattle.arimaa_match.specs.Programs.{after_gold, after_silver, match_of_programs, unbegun, unstarted}
 use Rattle.arimaa_match.specs.Records.{IsAcceptedMatch, ending_in_record}
-use Rattle.arimaa_match.proofs.KeptRecords.{IsBookedRecord, IsLastRecord, bare_last, closing_last, ended_last, later_booked, running_last, same_number, same_side, setup_more, turn_more}
+use Rattle.arimaa_match.proofs.KeptRecords.{IsBookedRecord, IsLastRecord, bare_last, closing_last, ended_last, later_booked, running_last, setup_more, turn_more}
 
 -- what is kept of a match between two answers, after so many bookings
 pub record IsKeptMatch (s : MatchState) (k : ℕ) : Type 0 where
@@ -112,7 +114,7 @@ module _ (s : MatchState) (k : ℕ) (kept : IsKeptMatch s k) (small : k ≤ 1000
   turn_left playing p marked now some none =
       made_left (Moves marked)
       (turn_more s.lines s.game k kept.booked (omega arith) p marked now some
-      (rw (same_number s.game.due.number, same_side s.game.due.side, kept.running, playing)
+      (rw (eq-eqb s.game.due.number s.game.due.number refl, same_color-refl s.game.due.side, kept.running, playing)
       (no_rule s.game.history marked kept.running none)))
 
   turns_left : is_playing s.game ≡ true → (read : Option (List NotedStep))
@@ -196,9 +198,6 @@ value_of {X} {Y} Q first later coming y is lead = by_value (first coming).value 
   by_value None was e = absurd (cc)
   by_value (Some x) was e = lead x was e
 
-inside : {X : Type 0} (a b : X) → Some a ≡ Some b → a ≡ b
-inside a b same = cc
-
 -- what a turn leaves of the record
 abbrev IsTurnedRecord : MatchState → Option MatchEnd → ℕ → Type 0
 IsTurnedRecord s None k = IsKeptMatch s k
@@ -207,7 +206,7 @@ IsTurnedRecord s (Some how) k = IsLastRecord s.lines (ending_in_record how)
 fault_left : (s : MatchState) (k : ℕ) (f : SideFault) (t : Turned) → IsKeptMatch s k → k ≤ 100002
     → Some (ended_by s f) ≡ Some t → IsTurnedRecord t.state t.end k
 fault_left s k f t kept small is =
-    subst (λ (t : Turned). IsTurnedRecord t.state t.end k) (inside (ended_by s f) t is)
+    subst (λ (t : Turned). IsTurnedRecord t.state t.end k) (same_Some (ended_by s f) t is)
     (bare_last s.lines s.game k kept.booked small kept.running)
 
 announced_left : (s : MatchState) (k : ℕ) (told : Result (Unit {0}) SideFault) (t : Turned)
@@ -215,17 +214,17 @@ announced_left : (s : MatchState) (k : ℕ) (told : Result (Unit {0}) SideFault)
     → IsTurnedRecord t.state t.end k
 announced_left s k (Ok x) t kept small is =
     subst (λ (t : Turned). IsTurnedRecord t.state t.end k)
-    (inside (after_announcing s (Ok x)) t is) kept
+    (same_Some (after_announcing s (Ok x)) t is) kept
 announced_left s k (Err f) t kept small is = fault_left s k f t kept small is
 
 verdict_left : (s : MatchState) (v : Verdict) (k : ℕ) (c : Coming) (t : Turned) → k ≤ 100002
     → IsRuledRecord s v k → (after_verdict s v c).value ≡ Some t → IsTurnedRecord t.state t.end k
 verdict_left s (verdict.Won winner why) k c t small ruled is =
     subst (λ (t : Turned). IsTurnedRecord t.state t.end k)
-    (inside (record { state = s; end = Some (end.Won winner why) }) t is) ruled
+    (same_Some (record { state = s; end = Some (end.Won winner why) }) t is) ruled
 verdict_left s verdict.Limit k c t small ruled is =
     subst (λ (t : Turned). IsTurnedRecord t.state t.end k)
-    (inside (record { state = s; end = Some end.Limit }) t is) ruled
+    (same_Some (record { state = s; end = Some end.Limit }) t is) ruled
 verdict_left s (verdict.Moved made) k c t small ruled is =
     value_of (λ (t : Turned). IsTurnedRecord t.state t.end k) (announcing made)
     (λ told. done (after_announcing s told)) c t is
@@ -263,13 +262,13 @@ by_end : (n k : ℕ) (f : Finished)
     → (after_turn (playing n) later how rest).value ≡ Some f → IsFinishedRecord f
 by_end n k f go later None rest left e = go later rest left e
 by_end n k f go later (Some how) rest left e =
-    subst IsFinishedRecord (inside (record { final = later; how = how }) f e) left
+    subst IsFinishedRecord (same_Some (record { final = later; how = how }) f e) left
 
 playing_left : (n k : ℕ) (s : MatchState) (c : Coming) (f : Finished) → k + n ≡ 100002
     → IsKeptMatch s k → (playing n s c).value ≡ Some f → IsFinishedRecord f
 unfolding playing
 playing_left zero k s c f whole kept is =
-    subst IsFinishedRecord (inside (record { final = s; how = end.Limit }) f is)
+    subst IsFinishedRecord (same_Some (record { final = s; how = end.Limit }) f is)
     (running_last s.lines s.game k kept.booked (omega arith) kept.running)
 playing_left (suc n) k s c f whole kept is =
     value_of IsFinishedRecord (turn s) (λ t. after_turn (playing n) t.state t.end) c f is
@@ -304,7 +303,7 @@ match_accepted control c m is =
     value_of IsAcceptedMatch (playing 100002 (before_match control))
     (λ f. and_then (quitting_both f.how) (λ _. done (left_by f))) c m is
     (λ f was e. value_of IsAcceptedMatch (quitting_both f.how) (λ _. done (left_by f)) _ m e
-    (λ u quit last. subst IsAcceptedMatch (inside (left_by f) m last)
+    (λ u quit last. subst IsAcceptedMatch (same_Some (left_by f) m last)
     (accepted_of f
     (playing_left 100002 0 (before_match control) c f refl (begun_kept control) was))))
 
@@ -324,7 +323,7 @@ silver_accepted : (control : Control) (r : Result (Unit {0}) SideFault) (c : Com
 silver_accepted control (Ok x) c m is = match_accepted control c m is
 silver_accepted control (Err f) c m is =
     value_of IsAcceptedMatch (quitting Gold false) (λ _. done (unbegun f.side f.fault)) c m is
-    (λ u was e. subst IsAcceptedMatch (inside (unbegun f.side f.fault) m e)
+    (λ u was e. subst IsAcceptedMatch (same_Some (unbegun f.side f.fault) m e)
     (unbegun_accepted f.side f.fault))
 
 gold_accepted : (control : Control) (r : Result (Unit {0}) SideFault) (c : Coming) (m : MatchDone)
@@ -333,7 +332,7 @@ gold_accepted control (Ok x) c m is =
     value_of IsAcceptedMatch (with_engine Silver (opening control)) (after_silver control) c m is
     (λ r was e. silver_accepted control r _ m e)
 gold_accepted control (Err f) c m is =
-    subst IsAcceptedMatch (inside (unbegun f.side f.fault) m is) (unbegun_accepted f.side f.fault)
+    subst IsAcceptedMatch (same_Some (unbegun f.side f.fault) m is) (unbegun_accepted f.side f.fault)
 
 -- the same of a match between two programs
 pub programs_accepted : (control : Control) (c : Coming) (m : MatchDone)

@@ -1,7 +1,6 @@
 -- Lines that the judge accepts one after the other, and the record that they make.
 use Rattle.std.proofs.Common.{◌≡◌, ◌∙◌, ◌++◌, ◌+◌, ℕ, List, [], ◌∷◌, Option, None, Ok, ap, subst, sym}
 use Rattle.std.specs.Prelude.{fold}
-use Rattle.std.specs.List.{AllByRecursion}
 use Rattle.arimaa_record.specs.declared.label.Label.{Label}
 use Rattle.arimaa_record.specs.declared.line.RecordLine.{RecordLine}
 use Rattle.arimaa_record.specs.Record.{AreLines}
@@ -52,12 +51,6 @@ judged_lawful (text ∷ texts) (line ∷ lines) s later number said accepted = (
   unbroken (rule_at s (Ok line)) number s.due (lawful_of later) _ accepted.0
       (judged_lawful texts lines (after_line s line) later (number + 1) said.1 accepted.1),
 )
-
--- of all these lines and of one more
-pub all_more : {X : Type 0} (P : X → Type 0) (xs : List X) (x : X) → AllByRecursion P xs → P x
-    → AllByRecursion P (xs ++ x ∷ [])
-all_more P [] x all here = (here, tt)
-all_more P (y ∷ ys) x all here = (all.0, all_more P ys x all.1 here)
 
 -- the record of a match that the judge accepts line by line is lawful
 pub accepted_lawful : (m : MatchDone) → IsAcceptedMatch m

@@ -2,19 +2,17 @@
 use Rattle.std.proofs.Common.{◌≡◌, ◌∙◌, ◌++◌, List, ℕ, Option, None, Some, ap, false, sym, true}
 use Rattle.std.specs.Prelude.{IsSome}
 use Rattle.std.proofs.lemmas.List.{append_cancel_left}
+use Rattle.std.proofs.lemmas.Option.{same_Some}
 use Rattle.arimaa_outside.specs.Told.{TellsMore, told_after}
 use Rattle.arimaa_match.specs.Laws.{ToldOnce}
 use Rattle.arimaa_outside.specs.declared.port_answer.PortAnswer.{PortAnswer}
-
-inside : {X : Type 0} (a b : X) → Some a ≡ Some b → a ≡ b
-inside a b same = cc
 
 once : {X : Type 0} (old new : Option (List X)) (one other : List X) → IsSome new
     → new ≡ told_after old one → new ≡ told_after old other → one ≡ other
 once None None one other some a b = let no : false ≡ true = some in absurd cc
 once None (Some now) one other some a b = absurd cc
 once (Some had) new one other some a b =
-    append_cancel_left had one other (inside (had ++ one) (had ++ other) (sym a ∙ b))
+    append_cancel_left had one other (same_Some (had ++ one) (had ++ other) (sym a ∙ b))
 
 once_given : (old new : Option (List ℕ)) (one other : List ℕ) → IsSome new → TellsMore old one new
     → TellsMore old other new → one ≡ other
