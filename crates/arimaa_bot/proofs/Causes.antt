@@ -1,17 +1,11 @@
 -- What a port counted, call after call.
-use Rattle.std.proofs.Common.{◌≡◌, ◌+◌, ◌-◌, ◌^◌, ◌≤◌, ℕ, arith, le_trans, subst}
+use Rattle.std.proofs.Common.{◌≡◌, ◌+◌, ◌-◌, ◌^◌, ◌≤◌, ℕ, arith, subst}
 use Rattle.std.specs.Prelude.{min}
 use Rattle.arimaa_outside.specs.Counts.{Counts, NeverFall}
 use Rattle.arimaa_outside.specs.Faults.{HasRisen}
 use Rattle.arimaa_bot.specs.declared.bot_end.BotEnd.{BotEnd}
 use Rattle.arimaa_bot.specs.declared.bot_end.BotEnd.TheVariants as end
 use Rattle.arimaa_bot.specs.Calls.{IsCause}
-
-pub falls_never : (now : Counts) → NeverFall now now
-falls_never now = record { faults = omega arith; stops = omega arith; lines = omega arith }
-
-pub never_fall : {old mid new : Counts} → NeverFall old mid → NeverFall mid new → NeverFall old new
-never_fall {old} {mid} {new} a b = record { faults = le_trans a.faults b.faults; stops = le_trans a.stops b.stops; lines = le_trans a.lines b.lines }
 
 later : (a b c top : ℕ) → a ≤ b → min (b + 1) top ≤ c → min (a + 1) top ≤ c
 later a b c top first second = omega arith

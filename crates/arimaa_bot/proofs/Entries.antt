@@ -2,12 +2,10 @@
 use Rattle.std.proofs.Common.{◌≡◌, ◌∙◌, ◌<◌, ℕ, suc, arith, List, [], ◌∷◌, length, map, get_or, Option, None, Some, Result, Ok, Err, true, true≢false, is_none, is_some, inl, refl, sym, ap}
 use Rattle.std.specs.Prelude.{IfOk, slice_get}
 use Rattle.std.specs.List.{filter}
-use Rattle.arimaa_board.specs.declared.piece.Color.{Color}
-use Rattle.arimaa_board.specs.declared.piece.Color.TheVariants.{Gold, Silver}
 use Rattle.arimaa_board.specs.declared.position.Position.{Position}
 use Rattle.arimaa_board.specs.declared.turn.NotedStep.{NotedStep}
-use Rattle.arimaa_board.specs.Board.{same_color}
 use Rattle.arimaa_board.specs.Noted.{noted_turn}
+use Rattle.arimaa_board.specs.ColorLaws.{same_color-refl}
 use Rattle.arimaa_forced.specs.declared.entry.Entry.{Entry}
 use Rattle.arimaa_forced.specs.Entries.{entry_with_marks}
 use Rattle.arimaa_model.specs.Decided.{decided}
@@ -15,10 +13,6 @@ use Rattle.arimaa_model.specs.Strategies.{Planned, entry_of, first_met, met, str
 use Rattle.arimaa_model.specs.Wins.{wins}
 use Rattle.arimaa_model.proofs.Meeting.{first-met}
 use Rattle.arimaa_model.proofs.Members.{In, filter-In}
-
-pub own : (c : Color) → same_color c c ≡ true
-own Gold = refl
-own Silver = refl
 
 some_first : (f : Position → Planned) (p : Position) (ps : List Position) → In p ps → (e : Planned) × (slice_get (map f ps) 0 ≡ Some e)
 some_first f p [] i = absurd i
@@ -30,7 +24,7 @@ unfolding strategy_of
 first_of barred n p open_yet won =
     let passes : is_none (decided p) ≡ true = rw open_yet refl in
     let there : In p (filter (λ q. is_none (decided q)) (p ∷ [])) = filter-In (λ q. is_none (decided q)) p (p ∷ []) (inl refl) passes in
-    let first : In p (first_met p.side barred p) = rw (own p.side) there in
+    let first : In p (first_met p.side barred p) = rw (same_color-refl p.side) there in
     some_first (entry_of p.side barred n) p (met p.side barred n p n) (first-met p.side barred n p won n p first)
 
 -- the first entry as it is written

@@ -1,26 +1,14 @@
 -- What went through a port, call by call.
-use Rattle.std.proofs.Common.{◌≡◌, ◌∙◌, ◌++◌, ◌-◌, ◌≤◌, ℕ, List, [], ◌∷◌, Option, None, Some, Result, Ok, Err, ap, append_assoc, arith, drop, get_or, length, map, refl, subst, sym, take, take_all}
-use Rattle.std.proofs.lemmas.List.{append-nil}
+use Rattle.std.proofs.Common.{◌≡◌, ◌∙◌, ◌++◌, ◌-◌, ◌≤◌, ℕ, List, [], ◌∷◌, Result, Ok, Err, ap, arith, drop, get_or, length, map, refl, subst, sym, take, take_all}
 use Rattle.arimaa_outside.specs.Answers.{send_answer}
 use Rattle.arimaa_outside.specs.Told.{told_after}
 use Rattle.arimaa_outside.specs.declared.port_answer.PortAnswer.{PortAnswer}
 use Rattle.arimaa_outside.specs.declared.port_answer.PortAnswer.TheVariants as answer
 use Rattle.arimaa_outside.specs.declared.port_fault.PortFault.{PortFault}
 use Rattle.arimaa_outside.specs.declared.port_fault.PortFault.TheVariants as port
+use Rattle.arimaa_outside.proofs.ToldLaws.{told_nothing, told_both}
 use Rattle.arimaa_bot.specs.Calls.{BrokeOff, Passed, Told, WereSent}
 use Rattle.arimaa_bot.specs.Talk.{all_sent}
-
-pub told_nothing : {X : Type 0} (told : Option (List X)) → told ≡ told_after told []
-told_nothing None = refl
-told_nothing (Some had) = ap Some (sym (append-nil had))
-
-told_twice : {X : Type 0} (told : Option (List X)) (first second : List X) → told_after (told_after told first) second ≡ told_after told (first ++ second)
-told_twice None first second = refl
-told_twice (Some had) first second = ap Some (append_assoc had first second)
-
--- what was told after two calls
-told_both : {X : Type 0} (old mid new : Option (List X)) (first second : List X) → mid ≡ told_after old first → new ≡ told_after mid second → new ≡ told_after old (first ++ second)
-told_both old mid new first second before step = step ∙ ap (λ told. told_after told second) before ∙ told_twice old first second
 
 -- no call
 pub passed_nothing : (old : Told) → Passed old old [] []

@@ -49,7 +49,8 @@ is_loss side (Some e) = not (same_color e.winner side)
 abbrev pub is_safe : List Position → Color → Position → Bool
 is_safe barred side q = is_allowed barred q && not (is_loss side (decided q))
 
--- the plain turn: the first turn, in turn order, that doesn't lose at once, and else the first turn of all
+-- the plain turn: the first turn, in turn order, that doesn't lose at once, and else the first turn
+-- of all
 abbrev pub plain_turn : List Position → Position → Option (List Step)
 plain_turn barred p = option_or
     (first_passing (is_safe barred p.side) p) (first_passing (is_allowed barred) p)
@@ -62,7 +63,8 @@ said_from p steps = text_of_turn (steps_with_marks p.board steps)
 abbrev pub said_by : Planned → List ℕ
 said_by e = said_from e.position e.steps
 
--- why the bot has no proof that the side to move wins p within its depth: there is no such win, or a question that has to be answered first costs more than the budget or needs more room
+-- why the bot has no proof that the side to move wins p within its depth: there is no such win, or
+-- a question that has to be answered first costs more than the budget or needs more room
 pub data IsUnproved (ahead : Lookahead) (barred : List Position) (p : Position) : Type 0 where
   not_won : wins p.side barred ahead.depth p ≡ false → IsUnproved ahead barred p
   spent : (q : Position) (n : ℕ) → InNeed p.side barred p ahead.depth q n
@@ -78,7 +80,8 @@ pub data IsChoice (ahead : Lookahead) : Stage → List ℕ → Type 0 where
   -- after the end of the game, that it resigns
   resigns : (g : Play) (e : Ending) → ending_of g ≡ Some e
       → IsChoice ahead (stage.Playing g) (codes "resign")
-  -- where the side to move wins within the depth, the turn of the first entry of the position's strategy
+  -- where the side to move wins within the depth, the turn of the first entry of the position's
+  -- strategy
   wins_by : (g : Play) (p : Position) (rank : ℕ) (e : Planned) → GoesOnAt g p
       → IsRank p.side (barred_by g.history) p rank → rank ≤ ahead.depth
       → slice_get (strategy_of p.side (barred_by g.history) rank p) 0 ≡ Some e

@@ -68,7 +68,8 @@ move_at stage.Unset noted = None
 move_at (stage.GoldSet gold) noted = None
 move_at (stage.Playing g) noted = option_map stage.Playing (moved g noted)
 
--- the stage that a command leads to; none where it tells a setup that isn't due or a turn that isn't lawful
+-- the stage that a command leads to; none where it tells a setup that isn't due or a turn that
+-- isn't lawful
 abbrev pub stage_told : Stage → Command → Option Stage
 stage_told at command.NewGame = Some stage.Unset
 stage_told at (command.SetPosition p) = Some (stage.Playing (begun p))

@@ -68,7 +68,8 @@ heard line = answer.Heard (said.Line line)
 abbrev pub all_sent : List (List ℕ) → List PortAnswer
 all_sent lines = map (λ _. answer.Sent) lines
 
--- line by line, each reply was sent before the next line was heard: the lines heard, what the port answered, the lines sent, and the stage that the game has come to
+-- line by line, each reply was sent before the next line was heard: the lines heard, what the port
+-- answered, the lines sent, and the stage that the game has come to
 pub data AreReplied (ahead : Lookahead)
     : List (List ℕ) → List PortAnswer → List (List ℕ) → Stage → Type 0 where
   none_yet : AreReplied ahead [] [] [] stage.Unset
@@ -87,7 +88,8 @@ pub record Talk (ahead : Lookahead) : Type 0 where
   pub replied : AreReplied ahead lines answers sent at
 
 -- how a session ends at a stage: the last answers of the port, the last lines sent, and the end
-pub data IsLast (ahead : Lookahead) (at : Stage) : List PortAnswer → List (List ℕ) → BotEnd → Type 0 where
+pub data IsLast (ahead : Lookahead) (at : Stage)
+    : List PortAnswer → List (List ℕ) → BotEnd → Type 0 where
   -- the controller says `quit`
   quits : (line : List ℕ) → command_of line ≡ Ok command.Quit
       → IsLast ahead at (heard line ∷ []) [] end.Quit

@@ -1,5 +1,5 @@
 //! Lines to the controller.
-ghost use Rattle.std.specs.Prelude.{◌≡◌, ◌∷◌, [], map};
+ghost use Rattle.std.specs.Prelude.{[], map};
 ghost use Rattle.arimaa_outside.specs.Counts.{NeverFall};
 ghost use Rattle.arimaa_bot.specs.Calls.{HasFailed, WereSent, told};
 ghost use Rattle.arimaa_bot.specs.Replies.{lines_of};

@@ -1,20 +1,12 @@
 -- The entry of a position that is won, as it is written.
-use Rattle.std.proofs.Common.{◌≡◌, ℕ, suc, ◌-◌, ◌<◌, ◌≤◌, List, [], ◌∷◌, length, Option, Some, Result, Ok, Err, true, refl, sym, ◌∙◌, ap, subst, arith}
-use Rattle.std.specs.Prelude.{is_some, is_ok, reverse, IfSome, IfOk, IfErr}
-use Rattle.std.proofs.lemmas.Bool.{and_parts, leb-true}
+use Rattle.std.proofs.Common.{◌≡◌, ℕ, suc, ◌-◌, ◌<◌, ◌≤◌, List, [], ◌∷◌, length, Some, true, refl, sym, ◌∙◌, ap, subst, arith}
+use Rattle.std.specs.Prelude.{is_some}
 use Rattle.arimaa_board.specs.declared.piece.Color.{Color}
-use Rattle.arimaa_board.specs.declared.board.Board.{Board}
 use Rattle.arimaa_board.specs.declared.position.Step.{Step}
 use Rattle.arimaa_board.specs.declared.position.Position.{Position}
 use Rattle.arimaa_board.specs.declared.turn.NotedStep.{NotedStep}
-use Rattle.arimaa_board.specs.Noted.{noted_turn, noted_marks}
-use Rattle.arimaa_model.specs.Results.{next, result_of}
+use Rattle.arimaa_model.specs.Results.{next}
 use Rattle.arimaa_model.specs.Ranks.{IsRank, rank_within}
-use Rattle.arimaa_model.specs.Marks.{marks_of, removed_by}
-use Rattle.arimaa_model.specs.Moves.{after}
-use Rattle.arimaa_model.specs.Faults.{applied, reached_by}
-use Rattle.arimaa_model.specs.Turns.{is_turn}
-use Rattle.arimaa_model.specs.declared.fault.ApplyFault.{ApplyFault}
 use Rattle.arimaa_model.specs.Strategies.{Planned, IsOpen, entry_of, result_at, first_turn, open_after, open_replies, after_entry}
 use Rattle.arimaa_model.proofs.Members.{In}
 use Rattle.arimaa_model.proofs.Positions.{In-stands}
@@ -22,8 +14,6 @@ use Rattle.arimaa_model.proofs.Listed.{result-turn}
 use Rattle.arimaa_model.proofs.FirstTurns.{entry-turn, first-won, best-result}
 use Rattle.arimaa_model.proofs.Ranking.{rank-is}
 use Rattle.arimaa_model.proofs.Meeting.{HasEntry, entry-has, entry-position, entry-rank}
-use Rattle.arimaa_step.proofs.Forward.{is_turn-state}
-use Rattle.arimaa_step.proofs.TurnLaws.{is_turn_back, turn_applied}
 use Rattle.arimaa_forced.specs.Search.{first_decisive, looked_at, is_decisive}
 use Rattle.arimaa_forced.specs.Needs.{IsAsked, place}
 use Rattle.arimaa_forced.specs.Entries.{steps_with_marks}
@@ -31,53 +21,12 @@ use Rattle.arimaa_forced.specs.declared.entry.Entry.{Entry}
 use Rattle.arimaa_pool.specs.Terms.{Terms}
 use Rattle.arimaa_pool.specs.Extraction.{written_entry}
 use Rattle.arimaa_forced.proofs.Looks.{first-played, found-up_to}
-
--- steps and their right marks
-pub with_marks : (b : Board) (noted : List NotedStep) (steps : List Step) → noted_turn noted ≡ steps → noted_marks noted ≡ marks_of b steps → noted ≡ steps_with_marks b steps
-unfolding marks_of
-with_marks b [] [] same marks = refl
-with_marks b [] (s ∷ rest) same marks = cc
-with_marks b (m ∷ noted) [] same marks = cc
-with_marks b (m ∷ noted) (s ∷ rest) same marks =
-    let step : m.step ≡ s = cc in
-    let steps : noted_turn noted ≡ rest = cc in
-    let others : noted_marks noted ≡ marks_of (after b s) rest = cc in
-    let mark : m.mark ≡ removed_by b s = cc in
-    let deep = with_marks (after b s) noted rest steps others in
-    λ i. record { step = step i; mark = mark i } ∷ deep i
-
--- a turn that reaches a position is applied
-few_steps : (p : Position) (steps : List Step) → is_turn p.board p.side steps ≡ true → length steps ≤ 4
-unfolding is_turn
-few_steps p steps turn = leb-true (length steps) 4 (and_parts _ _ (and_parts _ _ (and_parts _ _ turn).0).0).1
-
--- a turn has a step
-pub some_steps : (p : Position) (steps : List Step) → is_turn p.board p.side steps ≡ true → 1 ≤ length steps
-unfolding is_turn
-some_steps p steps turn = leb-true 1 (length steps) (and_parts _ _ (and_parts _ _ (and_parts _ _ turn).0).0).0
-
--- the steps are as many with their marks
-length-marks : (b : Board) (steps : List Step) → length (steps_with_marks b steps) ≡ length steps
-length-marks b [] = refl
-length-marks b (s ∷ rest) = ap suc (length-marks (after b s) rest)
-
-pub never_refused : (p r : Position) (steps : List Step) (Q : Type 0) → result_of p steps ≡ Some r → (e : ApplyFault) → applied p steps ≡ Err e → Q
-never_refused p r steps Q reached e refused =
-    let turn = result-turn p steps r reached in
-    let back : is_turn_back p (reverse steps) ≡ true = sym (is_turn-state p steps) ∙ turn in
-    let fine = turn_applied p steps (few_steps p steps turn) back in
-    not_both (applied p steps) (reached_by p (reverse steps)) e fine refused
-  where
-    not_both : (o : Result Position ApplyFault) (x : Position) (e : ApplyFault) → o ≡ Ok x → o ≡ Err e → Q
-    not_both o x e fine refused = cc
+pub use Rattle.arimaa_strategy.proofs.NotedTurns.{with_marks}
+use Rattle.arimaa_strategy.proofs.NotedTurns.{some_steps, length-marks}
 
 -- an open position has a rank above 0
 pub open-rank : (a : Color) (barred : List Position) (n : ℕ) (q : Position) → IsOpen a barred n q → 1 ≤ rank_within a barred n q
 open-rank a barred n q ready = let e = entry-has a barred n q ready in let more : rank_within a barred n q ≡ suc e.before = e.more in omega arith
-
--- its first decisive next position one turn below the rank is what its entry brings about
-pub open-first : (a : Color) (barred : List Position) (n : ℕ) (q : Position) → IsOpen a barred n q → first_decisive a barred (rank_within a barred n q - 1) q ≡ result_at (entry_of a barred n q)
-open-first a barred n q ready = first-played a barred n q ready
 
 pub open-result : (a : Color) (barred : List Position) (n : ℕ) (q : Position) → IsOpen a barred n q → is_some (result_at (entry_of a barred n q)) ≡ true
 open-result a barred n q ready = let e = entry-has a barred n q ready in ap is_some e.turn
@@ -145,14 +94,3 @@ written-steps t n q r turn =
     let some = some_steps e.position e.steps (result-turn e.position e.steps r turn) in
     let same = length-marks e.position.board e.steps in
     omega arith
-
--- what holds of a value, if there is one, holds of this value
-pub some_of : {X : Type 0} (o : Option X) (x : X) (P : X → Type 0) → o ≡ Some x → IfSome o P → P x
-some_of {X} o x P is told = let F : Option X → Type 0 = λ v. IfSome v P in subst F is told
-
-pub ok_of : {X E : Type 0} (o : Result X E) (x : X) (P : X → Type 0) → o ≡ Ok x → IfOk o P → P x
-ok_of {X} {E} o x P is told = let F : Result X E → Type 0 = λ v. IfOk v P in subst F is told
-
-pub never-err : {X E : Type 0} (o : Result X E) (P : E → Type 0) → IfErr o P → ((e : E) → P e → ⊥) → is_ok o ≡ true
-never-err (Ok x) P told none = refl
-never-err (Err e) P told none = absurd (none e told)

@@ -1,5 +1,5 @@
 -- Questions that are needed.
-use Rattle.std.proofs.Common.{ℕ, suc, ◌-◌, ◌≤◌, List, [], ◌∷◌, map, inl, inr, sym, ◌∙◌, ap, subst, arith}
+use Rattle.std.proofs.Common.{ℕ, suc, ◌-◌, ◌≤◌, List, [], ◌∷◌, map, inl, inr, sym, ◌∙◌, subst, arith}
 use Rattle.std.specs.List.{Contains}
 use Rattle.arimaa_board.specs.declared.piece.Color.{Color}
 use Rattle.arimaa_board.specs.declared.position.Position.{Position}
@@ -8,6 +8,7 @@ use Rattle.arimaa_model.specs.Strategies.{entry_of, met, strategy_of}
 use Rattle.arimaa_model.proofs.Members.{In}
 use Rattle.arimaa_model.proofs.Meeting.{entry-position, entry-rank}
 use Rattle.arimaa_model.proofs.Ranking.{wins-le}
+use Rattle.arimaa_model.proofs.Listed.{map-In}
 use Rattle.arimaa_forced.specs.Needs.{IsAsked, InNeed, itself, deepening, playing}
 use Rattle.arimaa_pool.proofs.RankBounds.{rank-same}
 
@@ -15,11 +16,6 @@ In-Contains : {X : Type 0} (x : X) (xs : List X) → In x xs → Contains xs x
 In-Contains x [] i = absurd i
 In-Contains x (y ∷ ys) (inl e) = (0, omega arith, sym e)
 In-Contains x (y ∷ ys) (inr i) = let deep = In-Contains x ys i in (suc deep.0, let inside = deep.1 in omega arith, deep.2)
-
-map-In : {X Y : Type 0} (f : X → Y) (x : X) (xs : List X) → In x xs → In (f x) (map f xs)
-map-In f x [] i = absurd i
-map-In f x (y ∷ ys) (inl e) = inl (ap f e)
-map-In f x (y ∷ ys) (inr i) = inr (map-In f x ys i)
 
 module _ (a : Color) (barred : List Position) (p : Position) (r : ℕ) (exact : IsRank a barred p r) where
   entry-listed : (q : Position) → In q (met a barred r p r) → Contains (strategy_of a barred r p) (entry_of a barred r q)

@@ -1,5 +1,5 @@
 -- Ranks that are not below some depth.
-use Rattle.std.proofs.Common.{◌≡◌, ℕ, zero, suc, ◌+◌, ◌-◌, ◌<◌, ◌≤◌, List, [], ◌∷◌, true, false, Option, Some, None, length, is_some, ◌⊎◌, inl, ⊎_elim, refl, sym, ◌∙◌, ap, subst, arith}
+use Rattle.std.proofs.Common.{◌≡◌, ℕ, zero, suc, ◌+◌, ◌-◌, ◌<◌, ◌≤◌, List, [], ◌∷◌, true, false, Some, None, length, is_some, ◌⊎◌, inl, ⊎_elim, refl, sym, ◌∙◌, ap, subst, arith}
 use Rattle.std.proofs.lemmas.Bool.{both_ways, cases_lt, false_from_ne_true}
 use Rattle.arimaa_board.specs.declared.piece.Color.{Color}
 use Rattle.arimaa_board.specs.declared.position.Position.{Position}
@@ -67,7 +67,3 @@ module _ (a : Color) (barred : List Position) where
         | q ∷ qs ↦ λ is some. absurd (both_ways _ (wins-end a barred p undecided (ap is_nil is)) won)
       ] refl long
   won-crowd p (suc n) room undecided won long = long-crowd a barred p (suc n) room undecided (omega arith) long
-
-pub is_some-None : {X : Type 0} (o : Option X) → is_some o ≡ false → o ≡ None
-is_some-None None none = refl
-is_some-None (Some x) none = cc

@@ -1,5 +1,5 @@
 -- What follows from an answer.
-use Rattle.std.proofs.Common.{◌≡◌, ℕ, ◌≤◌, List, [], ◌∷◌, length, map, Some, Ok, Err, Result, true, is_some, refl, sym, ◌∙◌, ap, subst, arith}
+use Rattle.std.proofs.Common.{◌≡◌, ℕ, ◌≤◌, List, [], ◌∷◌, map, Some, Ok, Err, Result, true, refl, sym, ◌∙◌, ap, subst, arith}
 use Rattle.std.specs.Prelude.{IfOk}
 use Rattle.arimaa_board.specs.declared.piece.Color.{Color}
 use Rattle.arimaa_board.specs.declared.position.Position.{Position}
@@ -36,12 +36,6 @@ stopped_too t u p n r f s same found is told =
 -- the terms are those of the proof
 pub terms_same : (x : Terms) (a : Color) (h : List Position) (s : Settings) → x.attacker ≡ a → x.barred ≡ barred_by h → x.budget ≡ s.budget → x.room ≡ s.room → x ≡ terms_of a h s
 terms_same x a h s attacker barred budget room = λ i. record { attacker = attacker i; barred = barred i; budget = budget i; room = room i }
-
--- there is a present position
-pub present-some : (h : List Position) → 1 ≤ length h → is_some (present h) ≡ true
-present-some [] some = absurd (omega arith)
-present-some (p ∷ []) some = refl
-present-some (p ∷ q ∷ h) some = present-some (q ∷ h) (omega arith)
 
 -- an answer on these terms and this position
 pub answer_for : {E : Type 0} (r : Result Verdict E) (x t : Terms) (q p : Position) (n : ℕ) → x ≡ t → q ≡ p → IfOk r (IsAnswer x q n) → IfOk r (IsAnswer t p n)

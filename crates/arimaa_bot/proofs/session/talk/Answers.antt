@@ -1,10 +1,10 @@
 use Rattle.std.proofs.Common.{◌∙◌, arith, refl, subst, sym}
 use Rattle.arimaa_aei.specs.Commands.{command_of}
 use Rattle.arimaa_bot.specs.Stages.{IsWhole}
-use Rattle.arimaa_bot.proofs.Causes.{falls_never, never_fall}
 use Rattle.arimaa_bot.proofs.Midst.{midst_begun, midst_ended, midst_enough, midst_more}
 use Rattle.arimaa_bot.proofs.Whole.{whole_after}
 use Rattle.arimaa_bot.proofs.session.talk.Goals as goal
+use Rattle.arimaa_outside.proofs.CountLaws.{falls_never, never_fall}
 
 pub loop-heard-init : goal.loop-heard-init
 loop-heard-init g c = record { midst = midst_begun _ _; whole = tt; faults = refl; never_falls = falls_never _ }

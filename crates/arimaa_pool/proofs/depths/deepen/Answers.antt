@@ -3,11 +3,12 @@ use Rattle.arimaa_model.specs.Decided.{decided}
 use Rattle.arimaa_model.specs.Ranks.{rank_within}
 use Rattle.arimaa_model.specs.Results.{next}
 use Rattle.arimaa_model.specs.Wins.{wins}
+use Rattle.arimaa_model.proofs.Lists.{is_some-None}
 use Rattle.arimaa_region.specs.Segments.{live_of}
 use Rattle.arimaa_forced.specs.Needs.{IsAsked}
 use Rattle.arimaa_pool.specs.Terms.{Terms}
 use Rattle.arimaa_pool.proofs.HandedOn.{fail_on}
-use Rattle.arimaa_pool.proofs.RankBounds.{rank-least, asked_itself, decided-lost, long-crowd, is_some-None}
+use Rattle.arimaa_pool.proofs.RankBounds.{rank-least, asked_itself, decided-lost, long-crowd}
 use Rattle.arimaa_pool.proofs.depths.deepen.Goals as goal
 
 pub returns-in_err-ask-clause-failure : goal.returns-in_err-ask-clause-failure

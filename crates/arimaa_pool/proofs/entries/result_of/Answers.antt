@@ -8,10 +8,11 @@ use Rattle.arimaa_model.proofs.Ranking.{rank-bound}
 use Rattle.arimaa_region.specs.Segments.{live_of}
 use Rattle.arimaa_forced.specs.Needs.{IsAsked}
 use Rattle.arimaa_forced.specs.Search.{looked_at, first_decisive}
+use Rattle.arimaa_forced.proofs.Looks.{first-played}
 use Rattle.arimaa_pool.specs.Terms.{Terms}
 use Rattle.arimaa_pool.proofs.HandedOn.{stop_on}
 use Rattle.arimaa_pool.proofs.RankBounds.{asked_itself, asked_place, long-crowd}
-use Rattle.arimaa_pool.proofs.EntryLaws.{open-rank, open-first, open-result}
+use Rattle.arimaa_pool.proofs.EntryLaws.{open-rank, open-result}
 use Rattle.arimaa_pool.proofs.entries.result_of.Goals as goal
 
 pub overflow_sub-rank : goal.overflow_sub-rank
@@ -43,13 +44,13 @@ found t rank n q o is first played = first ∙ (ap (λ (r : ℕ). first_decisive
 pub unwrap-requires : goal.unwrap-requires
 unwrap-requires c =
     let t : Terms = c.args.asker.now in
-    let same = found t c.args.rank c.args.n c.args.q.now c.in_ok-first-in-Ok.field-0 c.requires.rank c.in_ok-first-in-Ok.ensures.first (open-first t.attacker t.barred c.args.n c.args.q.now c.requires.open) in
+    let same = found t c.args.rank c.args.n c.args.q.now c.in_ok-first-in-Ok.field-0 c.requires.rank c.in_ok-first-in-Ok.ensures.first (first-played t.attacker t.barred c.args.n c.args.q.now c.requires.open) in
     ap is_some same ∙ open-result t.attacker t.barred c.args.n c.args.q.now c.requires.open
 
 pub returns-in_ok-first-in-Ok-clause-result : goal.returns-in_ok-first-in-Ok-clause-result
 returns-in_ok-first-in-Ok-clause-result c =
     let t : Terms = c.args.asker.now in
-    let same = found t c.args.rank c.args.n c.args.q.now c.in_ok-first-in-Ok.field-0 c.requires.rank c.in_ok-first-in-Ok.ensures.first (open-first t.attacker t.barred c.args.n c.args.q.now c.requires.open) in
+    let same = found t c.args.rank c.args.n c.args.q.now c.in_ok-first-in-Ok.field-0 c.requires.rank c.in_ok-first-in-Ok.ensures.first (first-played t.attacker t.barred c.args.n c.args.q.now c.requires.open) in
     sym same ∙ c.unwrap.ensures
 
 pub returns-in-Err-clause-stop : goal.returns-in-Err-clause-stop
