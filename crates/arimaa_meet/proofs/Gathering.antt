@@ -10,8 +10,9 @@ use Rattle.arimaa_meet.specs.declared.told.Told.{Told}
 use Rattle.arimaa_meet.specs.Matches.{MeetMatch}
 use Rattle.arimaa_meet.specs.Shares.{AreShares, AreTold, IsTold, dealt_from, dealt_to}
 use Rattle.arimaa_meet.proofs.Dealing.{dealt_head, dealt_last, dealt_other, dealt_skip}
-use Rattle.arimaa_meet.proofs.Playing.{all_zip_push}
 use Rattle.arimaa_meet.proofs.ReportSteps.{told_count}
+use Rattle.arimaa_record.proofs.PlainLaws.{all_zip_push}
+use Rattle.arimaa_record.proofs.FormLaws.{head_same, tail_same}
 
 -- an element of a list that has one
 pub some_of : {A : Type 0} (xs : List A) → 0 < length xs → A
@@ -25,12 +26,6 @@ first_taken {A} (y ∷ ys) x low is = ap (λ (z : A). z ∷ ys) (sym is)
 
 no_head : {A : Type 0} (x : A) (xs : List A) → ◌≡◌ {A = List A} [] (x ∷ xs) → ⊥
 no_head x xs e = cc
-
-same_head : {A : Type 0} (x y : A) (xs ys : List A) → ◌≡◌ {A = List A} (x ∷ xs) (y ∷ ys) → x ≡ y
-same_head x y xs ys same = cc
-
-same_tail : {A : Type 0} (x y : A) (xs ys : List A) → ◌≡◌ {A = List A} (x ∷ xs) (y ∷ ys) → xs ≡ ys
-same_tail x y xs ys same = cc
 
 no_matches : (rest : List MeetMatch) → map (λ (m : MeetMatch). m.pair) rest ≡ [] → rest ≡ []
 no_matches [] none = refl
@@ -53,8 +48,8 @@ first_of (m ∷ later) p ps one ones programs telling = record {
   m = m;
   later = later;
   is = refl;
-  programs = same_head m.pair p (map (λ (m : MeetMatch). m.pair) later) ps programs;
-  later_programs = same_tail m.pair p (map (λ (m : MeetMatch). m.pair) later) ps programs;
+  programs = head_same programs;
+  later_programs = tail_same programs;
   telling = telling.0;
   later_telling = telling.1;
 }

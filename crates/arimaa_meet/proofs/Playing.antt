@@ -13,14 +13,7 @@ use Rattle.arimaa_meet.specs.declared.told.Told.{Told}
 use Rattle.arimaa_meet.specs.Matches.{MeetMatch, outcome_of}
 use Rattle.arimaa_meet.specs.Shares.{HasPlayedPair, IsTold, dealt_to}
 use Rattle.arimaa_meet.proofs.Dealing.{dealt_last, dealt_other}
-
--- two lists are alike at each place where they are so far, and at one more
-pub all_zip_push : {A B : Type 0} (R : A → B → Type 0) (xs : List A) (ys : List B) (x : A) (y : B)
-    → AllZip R xs ys → R x y → AllZip R (xs ++ x ∷ []) (ys ++ y ∷ [])
-all_zip_push R [] [] x y all more = (more, tt)
-all_zip_push R [] (b ∷ ys) x y all more = absurd all
-all_zip_push R (a ∷ xs) [] x y all more = absurd all
-all_zip_push R (a ∷ xs) (b ∷ ys) x y all more = (all.0, all_zip_push R xs ys x y all.1 more)
+use Rattle.arimaa_record.proofs.PlainLaws.{all_zip_push}
 
 module _ {L : Type 0} (sent : L → Option (List (List ℕ))) (answers : L → Option (List PortAnswer))
     (counts : L → Counts) (control : Control) where

@@ -8,6 +8,7 @@ use Rattle.arimaa_time.proofs.Controls.{read_laws}
 use Rattle.arimaa_meet.specs.declared.words.Asked.{Asked}
 use Rattle.arimaa_meet.specs.Words.{AreProgramsFrom, AsksForMeet}
 use Rattle.arimaa_outside.specs.Writing.{EndsWith}
+use Rattle.arimaa_record.proofs.FormLaws.{head_same, tail_same}
 
 -- the first word, and then the others
 pub first_word : (words : List (List ℕ)) (text : List ℕ) → Some text ≡ slice_get words 0
@@ -25,18 +26,12 @@ pub later_programs : (words : List (List ℕ)) → AreProgramsFrom 1 words → A
 later_programs [] all k d low within = absurd (omega arith)
 later_programs (word ∷ later) all k d low within = all (suc k) d (omega arith) (omega arith)
 
-same_first : (x y : List ℕ) (xs ys : List (List ℕ)) → ◌≡◌ {A = List (List ℕ)} (x ∷ xs) (y ∷ ys) → x ≡ y
-same_first x y xs ys same = cc
-
-same_later : (x y : List ℕ) (xs ys : List (List ℕ)) → ◌≡◌ {A = List (List ℕ)} (x ∷ xs) (y ∷ ys) → xs ≡ ys
-same_later x y xs ys same = cc
-
 -- the words ask for one meet
 pub one_asked : (words : List (List ℕ)) (a b : Asked) → AsksForMeet words a → AsksForMeet words b → a ≡ b
 one_asked words a b p q =
     let forms : p.text ∷ p.programs ≡ q.text ∷ q.programs = sym p.form ∙ q.form in
-    let texts : p.text ≡ q.text = same_first p.text q.text p.programs q.programs forms in
-    let others : p.programs ≡ q.programs = same_later p.text q.text p.programs q.programs forms in
+    let texts : p.text ≡ q.text = head_same forms in
+    let others : p.programs ≡ q.programs = tail_same forms in
     let laws = read_laws p.text _ refl in
     let both = sym (laws.only a.control p.control) ∙ laws.only b.control (subst (λ (t : List ℕ). IsControl t b.control) (sym texts) q.control) in
     let controls : a.control ≡ b.control = cc in
