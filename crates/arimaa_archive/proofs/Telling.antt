@@ -15,14 +15,6 @@ all_zip_map f R [] (y ∷ ys) all = all
 all_zip_map f R (x ∷ xs) [] all = all
 all_zip_map f R (x ∷ xs) (y ∷ ys) all = (all.0, all_zip_map f R xs ys all.1)
 
--- two lists are alike at each place where they are so far, and at one more
-pub all_zip_push : {A B : Type 0} (R : A → B → Type 0) (xs : List A) (ys : List B) (x : A) (y : B)
-    → AllZip R xs ys → R x y → AllZip R (xs ++ x ∷ []) (ys ++ y ∷ [])
-all_zip_push R [] [] x y all more = (more, tt)
-all_zip_push R [] (b ∷ ys) x y all more = absurd all
-all_zip_push R (a ∷ xs) [] x y all more = absurd all
-all_zip_push R (a ∷ xs) (b ∷ ys) x y all more = (all.0, all_zip_push R xs ys x y all.1 more)
-
 -- one thing is told of given lines
 one_told : LinesApart → (lines : List (List ℕ)) (a b : Told) → IsTold lines a → IsTold lines b → a ≡ b
 one_told apart lines a b p q =
