@@ -158,7 +158,7 @@ passed_all word bytes start lines h nothing =
 one_piece : (last : List ℕ) → length (lines_of_pieces (last ∷ [])) ≤ 1
 one_piece last = elim (length last == 0) as (λ v. length (cond v [] (strip_carriage_return last ∷ [])) ≤ 1) [ true ↦ omega arith | false ↦ omega arith ]
 
--- the pieces of a text make no more lines than the text has bytes
+-- the pieces of a text give no more lines than the text has bytes
 pieces_few : (bytes : List ℕ) → length (lines_of_pieces (slice_split is_feed bytes)) ≤ length bytes
 pieces_few [] = omega arith
 pieces_few (b ∷ bytes) = elim (is_feed b) as (λ v. length (lines_of_pieces (cond v ([] ∷ slice_split is_feed bytes) (onto_first b (slice_split is_feed bytes)))) ≤ length (b ∷ bytes)) [

@@ -93,13 +93,8 @@ pub record AreWords (words : List (List ℕ)) (c : Command) : Type 0 where
 
 -- the command is prove
 abbrev pub is_prove : Command → Bool
-is_prove (command.About q) = false
 is_prove (command.Prove asked) = true
-is_prove (command.Check asked) = false
-is_prove (command.Refute asked) = false
-is_prove (command.Verify asked) = false
-is_prove (command.Control text) = false
-is_prove (command.Make asked) = false
+is_prove _ = false
 
 -- a call serves a command
 abbrev pub serves : Call → Command → Bool
@@ -118,23 +113,17 @@ AsksNothing call words = (c : Command) → Asks call words c → ⊥
 
 -- a command reads the input
 abbrev pub Reads : Command → Type 0
-Reads (command.About q) = Unit {0}
-Reads (command.Prove asked) = Unit {0}
-Reads (command.Check asked) = Unit {0}
-Reads (command.Refute asked) = Unit {0}
-Reads (command.Verify asked) = Unit {0}
 Reads (command.Control text) = ⊥
 Reads (command.Make asked) = ⊥
+Reads _ = Unit {0}
 
 -- a command may stop short, since its budget or its room is limited
 abbrev pub IsLimited : Command → Type 0
-IsLimited (command.About q) = ⊥
 IsLimited (command.Prove asked) = Unit {0}
 IsLimited (command.Check asked) = Unit {0}
 IsLimited (command.Refute asked) = Unit {0}
 IsLimited (command.Verify asked) = Unit {0}
-IsLimited (command.Control text) = ⊥
-IsLimited (command.Make asked) = ⊥
+IsLimited _ = ⊥
 
 -- ---- answers
 
@@ -170,8 +159,7 @@ IsAbout given (asking.Prove asked found) = IsRecord given found
 IsAbout given (asking.Check asked bytes) = bytes.items ≡ given
 IsAbout given (asking.Refute asked found) = IsRecord given found
 IsAbout given (asking.Verify asked bytes) = bytes.items ≡ given
-IsAbout given (asking.Control text) = Unit {0}
-IsAbout given (asking.Make asked) = Unit {0}
+IsAbout given _ = Unit {0}
 
 -- what is answered where this is asked
 abbrev pub IsAnswerTo : Asking → Answer → Type 0

@@ -1,4 +1,4 @@
-use Rattle.arimaa_cli.proofs.CommandForms.{no_match}
+use Rattle.arimaa_cli.proofs.Agreeing.{no_match}
 use Rattle.arimaa_cli.proofs.laws.commands_are_no_matches.Goals as goal
 
 pub returns : goal.returns
