@@ -1,8 +1,8 @@
 -- The turns that make plays.
 use Rattle.std.proofs.Common.{◌≡◌, ℕ, zero, suc, ◌%◌, ◌≤◌, ◌<◌, List, [], ◌∷◌, ◌++◌, length, Option, None, Some, Bool, true, false, not, inl, inr, refl, sym, ◌∙◌, ap, arith}
 use Rattle.std.specs.Prelude.{Result, Ok, slice_get, nat_le}
-use Rattle.std.specs.Option.{option_or}
 use Rattle.std.proofs.lemmas.Option.{slice_get_past}
+use Rattle.std.proofs.lemmas.Bool.{not-true}
 use Rattle.std.proofs.lemmas.Bool.Decides.{nat_tests}
 use Rattle.arimaa_board.specs.declared.position.Position.{Position}
 use Rattle.arimaa_board.specs.declared.position.Step.{Step}
@@ -13,6 +13,7 @@ use Rattle.arimaa_model.specs.Game.{barred_by, count_in, ended_for, ending, endi
 use Rattle.arimaa_model.specs.Results.{next, position_of, result_of, results, stands_in}
 use Rattle.arimaa_model.specs.Turns.{after_all, is_turn}
 use Rattle.arimaa_model.proofs.Barring.{next-lawful, once-unbarred}
+use Rattle.arimaa_model.proofs.Lists.{or-none}
 use Rattle.arimaa_model.proofs.Listed.{result-turn}
 use Rattle.arimaa_model.proofs.Members.{In, In-filter}
 use Rattle.arimaa_model.proofs.RelatedTurns.{turn-Decides}
@@ -31,14 +32,10 @@ in_at (y ∷ ys) (suc k) x e = inr (in_at ys k x e)
 pub same_place : (xs ys : List Position) (n m : ℕ) (x : Position) → xs ≡ ys → m ≡ length xs → slice_get xs (n % m) ≡ Some x → slice_get ys (n % length ys) ≡ Some x
 same_place xs ys n m x e f g = let size : length xs ≡ length ys = ap length e in cc
 
-or_none : (o : Option Ending) → option_or o None ≡ o
-or_none None = refl
-or_none (Some e) = refl
-
 -- a game that no word has closed ends by the rules
 pub open_ending : (g : Play) → g.closing ≡ None → ending_of g ≡ ending g.history
 unfolding ending_of
-open_ending g e = rw e (or_none (ending g.history))
+open_ending g e = rw e (or-none (ending g.history))
 
 goes_on : (p : Position) (o : Option Ending) (qs : List Position) → ended_for p o qs ≡ None → 0 < length qs
 goes_on p (Some e) qs h = cc
@@ -49,10 +46,6 @@ goes_on p None (q ∷ qs) h = omega arith
 pub some_next : (h : List Position) (p : Position) → ending h ≡ None → present h ≡ Some p → 0 < length (next (barred_by h) p)
 unfolding ending_at
 some_next h p on last = rw next-lawful (goes_on p (decided p) (lawful_at h p) (rw last at on))
-
-not_true : (b : Bool) → not b ≡ true → b ≡ false
-not_true false e = refl
-not_true true e = cc
 
 -- the first turn to a position of the list may be played
 pub playable : (g : Play) (p q : Position) (turn : List Step) (k : ℕ) → ending_of g ≡ None → present g.history ≡ Some p
@@ -67,7 +60,7 @@ playable g p q turn k on last place reaches =
     let reached : applied p turn ≡ Ok q = accepted ∙ ap (λ (x : Position). Ok x) there in
     let member = in_at (next (barred_by g.history) p) k q place in
     let free = (In-filter (λ x. not (stands_in (barred_by g.history) x)) q (results p) member).1 in
-    let once : count_in g.history q ≤ 1 = once-unbarred g.history q (not_true _ free) in
+    let once : count_in g.history q ≤ 1 = once-unbarred g.history q (not-true _ free) in
     let test : nat_le 2 (count_in g.history q) ≡ false = grind (arith, nat_tests) in
     rw (on, last, reached, test) refl
 

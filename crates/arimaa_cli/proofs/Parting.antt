@@ -8,6 +8,7 @@ use Rattle.std.proofs.lemmas.List.{append-nil, drop-drop, drop_all, get_or-take,
 use Rattle.std.proofs.lemmas.List.Sums.{position_or_len_is}
 use Rattle.arimaa_record.specs.Lines.{is_feed, lines_of, lines_of_pieces}
 use Rattle.arimaa_record.proofs.LineLaws.{lines-first, no_lines}
+use Rattle.arimaa_record.proofs.PlainLaws.{all_append}
 use Rattle.arimaa_cli.specs.Parts.{AreWholeLines, IsFirstLine, IsParted, NoneSays, Says}
 
 -- ---- whole lines
@@ -74,10 +75,6 @@ first_open bytes n some is before =
     }
 
 -- ---- the lines so far
-
-all_append : {X : Type 0} (P : X → Type 0) (xs ys : List X) → AllByRecursion P xs → AllByRecursion P ys → AllByRecursion P (xs ++ ys)
-all_append P [] ys p q = q
-all_append P (x ∷ xs) ys p q = (p.0, all_append P xs ys p.1 q)
 
 -- so many bytes are so many lines, none of which says a word; whole lines, unless they are all bytes
 pub record IsPassed (word bytes : List ℕ) (start lines : ℕ) : Type 0 where

@@ -2,8 +2,8 @@
 use Rattle.std.proofs.Common.{◌≡◌, ℕ, List, [], Option, None, Some, inl, inr, refl, sym, ◌∙◌, ap, subst, ⊎_elim}
 use Rattle.std.specs.Prelude.{IfNone, IfOk, IfSome, Result, Ok, Err, alloc_error, unwrap_or}
 use Rattle.std.specs.declared.alloc.AllocError.{AllocError}
-use mathlib.Core.List.{append-nil}
-use Rattle.arimaa_outside.specs.Told.{told_after, told_before}
+use Rattle.arimaa_outside.specs.Told.{told_before}
+use Rattle.arimaa_outside.proofs.ToldLaws.{told_nothing}
 use Rattle.arimaa_outside.specs.Counts.{Counts}
 use Rattle.arimaa_outside.specs.declared.port_answer.PortAnswer.{PortAnswer}
 use Rattle.arimaa_outside.specs.declared.port_fault.PortFault.TheVariants as port
@@ -80,10 +80,6 @@ told_same : {X : Type 0} (told : Option (List X)) → told ≡ told_before [] to
 told_same None = refl
 told_same (Some left) = refl
 
-told_still : {X : Type 0} (told : Option (List X)) → told ≡ told_after told []
-told_still None = refl
-told_still (Some had) = ap Some (sym (append-nil had))
-
 -- a match for which no memory was left before it began
 pub unplayed : {L : Type 0} (sent : L → Option (List (List ℕ))) (answers : L → Option (List PortAnswer)) (counts : L → Counts) (control : Control)
     (s : Spawned L) (c : Counts) (moments before : Option (List ℕ)) → Played sent answers counts control Memory s s c c moments moments before before
@@ -93,7 +89,7 @@ unplayed sent answers counts control s c moments before = record {
     refl,
     inl (record {
       refusal = port.Memory;
-      hands = record { waiting = told_same s.waiting; back = told_still s.back; answers = told_still s.answers };
+      hands = record { waiting = told_same s.waiting; back = told_nothing s.back; answers = told_nothing s.answers };
       outcome = refl;
     }),
   );
