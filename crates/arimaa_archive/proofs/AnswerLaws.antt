@@ -5,12 +5,12 @@ use Rattle.arimaa_outside.specs.declared.source.TheConstants.{INPUT_LIMIT}
 use Rattle.arimaa_outside.specs.declared.status.Status.TheVariants.{Done, Answered}
 use Rattle.arimaa_record.specs.Lines.{lines_of}
 use Rattle.arimaa_archive.specs.declared.parts.Part.{Part}
-use Rattle.arimaa_archive.specs.declared.told.Told.{Told}
+use Rattle.arimaa_archive.specs.declared.record_judgement.Told.{Told}
 use Rattle.arimaa_archive.specs.Archive.{first_content, lines_before_game, lines_of_part, records_of}
 use Rattle.arimaa_archive.specs.Calls.{IsAnswer}
 use Rattle.arimaa_archive.specs.Calls.IsAnswer.{no_game, reported}
 use Rattle.arimaa_archive.specs.Report.{text_of_report, text_of_stray}
-use Rattle.arimaa_archive.specs.Told.{IsTold, IsToldOfPart}
+use Rattle.arimaa_archive.specs.RecordJudgements.{IsTold, IsToldOfPart}
 use Rattle.arimaa_archive.specs.Words.{AreInForm}
 use Rattle.arimaa_archive.proofs.Telling.{all_zip_map}
 

@@ -4,7 +4,7 @@ use Rattle.std.proofs.lemmas.Bool.{cases_lt}
 use Rattle.std.proofs.lemmas.List.{append-nil, drop_all}
 use Rattle.std.proofs.lemmas.Nat.{div-add-mod', mod_below}
 use native.Mathlib.Nat.{add-mul, one-mul}
-use Rattle.arimaa_archive.specs.declared.told.Told.{Told}
+use Rattle.arimaa_archive.specs.declared.record_judgement.Told.{Told}
 use Rattle.arimaa_archive.specs.Report.{text_of_record, text_of_records}
 
 -- the texts of the first records, and then those of the others

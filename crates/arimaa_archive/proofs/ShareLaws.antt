@@ -4,9 +4,9 @@ use Rattle.std.specs.Prelude.{Result, Ok, IfOk}
 use Rattle.std.proofs.lemmas.Bool.{cases_lt}
 use Rattle.std.proofs.lemmas.List.{get_or_append_left, get_or_push, get_or_default}
 use Rattle.arimaa_archive.specs.declared.parts.Part.{Part}
-use Rattle.arimaa_archive.specs.declared.told.Told.{Told}
+use Rattle.arimaa_archive.specs.declared.record_judgement.Told.{Told}
 use Rattle.arimaa_archive.specs.Shares.{IsShare}
-use Rattle.arimaa_archive.specs.Told.{IsToldOfPart}
+use Rattle.arimaa_archive.specs.RecordJudgements.{IsToldOfPart}
 
 -- what holds of a value, if there is one, holds of this one
 pub ok_value : {A E : Type 0} (P : A → Type 0) (r : Result A E) (v : A) → r ≡ Ok v → IfOk r P → P v

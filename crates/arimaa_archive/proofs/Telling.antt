@@ -4,8 +4,8 @@ use Rattle.std.specs.List.{AllZip}
 use Rattle.arimaa_record.specs.Laws.{LinesApart}
 use Rattle.arimaa_judge.specs.RecordState.{before_lines}
 use Rattle.arimaa_judge.proofs.JudgedLines.{one_judgement}
-use Rattle.arimaa_archive.specs.declared.told.Told.{Told}
-use Rattle.arimaa_archive.specs.Told.{IsTold, told_of}
+use Rattle.arimaa_archive.specs.declared.record_judgement.Told.{Told}
+use Rattle.arimaa_archive.specs.RecordJudgements.{IsTold, told_of}
 
 -- what holds of the values of the elements of a list holds of the list of these values
 pub all_zip_map : {A B C : Type 0} (f : A → B) (R : B → C → Type 0) (xs : List A) (ys : List C)

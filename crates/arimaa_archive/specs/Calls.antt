@@ -9,10 +9,10 @@ use Rattle.arimaa_outside.specs.declared.source.TheConstants.{INPUT_LIMIT}
 use Rattle.arimaa_outside.specs.declared.status.Status.{Status}
 use Rattle.arimaa_outside.specs.declared.status.Status.TheVariants.{Done, Answered, Words, ReadFault, WriteFault, Memory, TooLong}
 use Rattle.arimaa_record.specs.Lines.{lines_of}
-use Rattle.arimaa_archive.specs.declared.told.Told.{Told}
+use Rattle.arimaa_archive.specs.declared.record_judgement.Told.{Told}
 use Rattle.arimaa_archive.specs.Archive.{records_of, stray_line}
 use Rattle.arimaa_archive.specs.Report.{text_of_report, text_of_stray}
-use Rattle.arimaa_archive.specs.Told.{IsTold}
+use Rattle.arimaa_archive.specs.RecordJudgements.{IsTold}
 use Rattle.arimaa_archive.specs.Words.{AreInForm, AreMisformed}
 
 -- what is told of the records of an archive, one after another

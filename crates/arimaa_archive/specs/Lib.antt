@@ -1,5 +1,5 @@
 pub mod Archive
-pub mod Told
+pub mod RecordJudgements
 pub mod Shares
 pub mod Report
 pub mod Words

@@ -2,8 +2,8 @@
 use Rattle.std.specs.Prelude.{ℕ, ◌+◌, List, [], ◌∷◌, ◌++◌, codes, count_by, length}
 use Rattle.std.specs.Fmt.{decimal}
 use Rattle.arimaa_judge.specs.Texts.{line}
-use Rattle.arimaa_archive.specs.declared.told.Told.{Told}
-use Rattle.arimaa_archive.specs.Told.{is_bad, is_lawful, text_of_told}
+use Rattle.arimaa_archive.specs.declared.record_judgement.Told.{Told}
+use Rattle.arimaa_archive.specs.RecordJudgements.{is_bad, is_lawful, text_of_told}
 
 -- a record of this number: the line `game` with the number, and the text about it
 abbrev pub text_of_record : ℕ → Told → List ℕ

@@ -1,8 +1,8 @@
 -- How the records are dealt to the workers.
 use Rattle.std.specs.Prelude.{◌<◌, ℕ, ◌+◌, ◌*◌, List, length, slice_index_or}
 use Rattle.arimaa_archive.specs.declared.parts.Part.{Part}
-use Rattle.arimaa_archive.specs.declared.told.Told.{Told}
-use Rattle.arimaa_archive.specs.Told.{IsToldOfPart}
+use Rattle.arimaa_archive.specs.declared.record_judgement.Told.{Told}
+use Rattle.arimaa_archive.specs.RecordJudgements.{IsToldOfPart}
 
 -- what one of so many workers tells of its records, whose number, modulo that of the workers, is
 -- its own

@@ -10,7 +10,7 @@ mod laws;
 mod parts;
 mod report;
 mod shares;
-mod told;
+mod record_judgement;
 mod words;
 
 pub use arimaa_judge::{Ending, Label, Rule};
@@ -19,5 +19,5 @@ pub use calls::run_archive;
 pub use laws::{archive_answers_agree, records_keep_lines, workers_agree};
 pub use parts::Part;
 pub use shares::judge_many;
-pub use told::Told;
+pub use record_judgement::Told;
 pub use words::{MOST_WORKERS, USUAL_WORKERS};

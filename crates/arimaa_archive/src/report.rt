@@ -1,10 +1,10 @@
 //! The text of the report.
 ghost use Rattle.std.specs.Prelude.{◌≡◌, ◌+◌, ◌++◌, ◌<◌, ◌≤◌, ◌^◌, IfOk, OnOk, count_by, length};
 ghost use Rattle.std.specs.Fmt.{decimal};
-ghost use Rattle.arimaa_archive.specs.Told.{is_bad, is_lawful};
+ghost use Rattle.arimaa_archive.specs.RecordJudgements.{is_bad, is_lawful};
 ghost use Rattle.arimaa_archive.specs.Report.{text_of_counts, text_of_record, text_of_records, text_of_report, text_of_stray};
 
-use crate::told::Told;
+use crate::record_judgement::Told;
 use itoa::Buffer;
 use std::alloc::{AllocError, Global};
 use std::thread;

@@ -3,11 +3,11 @@ ghost use Rattle.std.specs.Prelude.{◌≡◌, ◌<◌, ◌≤◌, ◌^◌, All,
 ghost use Rattle.std.specs.List.{AllZip};
 ghost use Rattle.arimaa_archive.specs.Archive.{IsWithin};
 ghost use Rattle.arimaa_archive.specs.Shares.{IsShare};
-ghost use Rattle.arimaa_archive.specs.Told.{IsToldOfPart};
+ghost use Rattle.arimaa_archive.specs.RecordJudgements.{IsToldOfPart};
 ghost use Rattle.arimaa_archive.specs.declared.words.TheConstants.{MOST_WORKERS as MOST};
 
 use crate::parts::Part;
-use crate::told::Told;
+use crate::record_judgement::Told;
 use arimaa_judge::judge;
 use arimaa_pool::Gate;
 use std::alloc::{AllocError, Global};

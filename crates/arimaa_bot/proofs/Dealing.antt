@@ -8,7 +8,7 @@ use Rattle.arimaa_outside.specs.declared.port_answer.PortAnswer.{PortAnswer}
 use Rattle.arimaa_outside.specs.declared.port_answer.PortAnswer.TheVariants as answer
 use Rattle.arimaa_outside.specs.declared.port_fault.PortFault.{PortFault}
 use Rattle.arimaa_outside.specs.declared.port_fault.PortFault.TheVariants as port
-use Rattle.arimaa_outside.specs.declared.said.Said.TheVariants as said
+use Rattle.arimaa_outside.specs.declared.speech.Said.TheVariants as said
 use Rattle.arimaa_bot.specs.declared.bot_end.BotEnd.{BotEnd}
 use Rattle.arimaa_bot.specs.declared.bot_end.BotEnd.TheVariants as end
 use Rattle.arimaa_bot.specs.declared.lookahead.Lookahead.{Lookahead}

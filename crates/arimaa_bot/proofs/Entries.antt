@@ -4,11 +4,11 @@ use Rattle.std.specs.Prelude.{IfOk, slice_get}
 use Rattle.std.specs.List.{filter}
 use Rattle.arimaa_board.specs.declared.position.Position.{Position}
 use Rattle.arimaa_board.specs.declared.turn.NotedStep.{NotedStep}
-use Rattle.arimaa_board.specs.Noted.{noted_turn}
+use Rattle.arimaa_board.specs.NotedTurns.{noted_turn}
 use Rattle.arimaa_board.specs.ColorLaws.{same_color-refl}
 use Rattle.arimaa_forced.specs.declared.entry.Entry.{Entry}
 use Rattle.arimaa_forced.specs.Entries.{entry_with_marks}
-use Rattle.arimaa_model.specs.Decided.{decided}
+use Rattle.arimaa_model.specs.DecidedPositions.{decided}
 use Rattle.arimaa_model.specs.Strategies.{Planned, entry_of, first_met, met, strategy_of}
 use Rattle.arimaa_model.specs.Wins.{wins}
 use Rattle.arimaa_model.proofs.Meeting.{first-met}

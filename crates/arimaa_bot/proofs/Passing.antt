@@ -1,7 +1,7 @@
 -- What went through a port, call by call.
 use Rattle.std.proofs.Common.{◌≡◌, ◌∙◌, ◌++◌, ◌-◌, ◌≤◌, ℕ, List, [], ◌∷◌, Result, Ok, Err, ap, arith, drop, get_or, length, map, refl, subst, sym, take, take_all}
 use Rattle.arimaa_outside.specs.Answers.{send_answer}
-use Rattle.arimaa_outside.specs.Told.{told_after}
+use Rattle.arimaa_outside.specs.ToldLines.{told_after}
 use Rattle.arimaa_outside.specs.declared.port_answer.PortAnswer.{PortAnswer}
 use Rattle.arimaa_outside.specs.declared.port_answer.PortAnswer.TheVariants as answer
 use Rattle.arimaa_outside.specs.declared.port_fault.PortFault.{PortFault}

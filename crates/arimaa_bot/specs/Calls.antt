@@ -3,10 +3,10 @@ use Rattle.std.specs.Prelude.{◌≡◌, ◌≢◌, ℕ, List, [], ◌∷◌, �
 use Rattle.arimaa_aei.specs.Commands.{command_of}
 use Rattle.arimaa_outside.specs.Counts.{Counts}
 use Rattle.arimaa_outside.specs.Faults.{HasRisen}
-use Rattle.arimaa_outside.specs.Told.{told_after}
+use Rattle.arimaa_outside.specs.ToldLines.{told_after}
 use Rattle.arimaa_outside.specs.declared.port_answer.PortAnswer.{PortAnswer}
 use Rattle.arimaa_outside.specs.declared.port_answer.PortAnswer.TheVariants as answer
-use Rattle.arimaa_outside.specs.declared.said.Said.TheVariants as said
+use Rattle.arimaa_outside.specs.declared.speech.Said.TheVariants as said
 use Rattle.arimaa_outside.specs.declared.port_fault.PortFault.{PortFault}
 use Rattle.arimaa_outside.specs.declared.port_fault.PortFault.TheVariants as port
 use Rattle.arimaa_bot.specs.declared.bot_end.BotEnd.{BotEnd}

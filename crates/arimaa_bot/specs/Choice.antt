@@ -12,14 +12,14 @@ use Rattle.arimaa_forced.specs.Entries.{steps_with_marks}
 use Rattle.arimaa_forced.specs.Needs.{InNeed}
 use Rattle.arimaa_forced.specs.Search.{cost, crowd}
 use Rattle.arimaa_game.specs.Play.{Play, ending_of}
-use Rattle.arimaa_model.specs.Decided.{decided}
+use Rattle.arimaa_model.specs.DecidedPositions.{decided}
 use Rattle.arimaa_model.specs.Game.{barred_by, present}
 use Rattle.arimaa_model.specs.Ranks.{IsRank}
 use Rattle.arimaa_model.specs.Results.{stands_in}
 use Rattle.arimaa_model.specs.Strategies.{Planned, strategy_of}
 use Rattle.arimaa_model.specs.Wins.{wins}
 use Rattle.arimaa_notation.specs.Written.{text_of_turn}
-use Rattle.arimaa_results.specs.Passing.{first_passing}
+use Rattle.arimaa_results.specs.Conditions.{first_passing}
 use Rattle.arimaa_bot.specs.declared.lookahead.Lookahead.{Lookahead}
 use Rattle.arimaa_bot.specs.declared.stage.Stage.{Stage}
 use Rattle.arimaa_bot.specs.declared.stage.Stage.TheVariants as stage

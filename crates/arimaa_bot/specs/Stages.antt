@@ -6,7 +6,7 @@ use Rattle.arimaa_board.specs.declared.piece.Color.TheVariants.{Gold, Silver}
 use Rattle.arimaa_board.specs.declared.position.Position.{Position}
 use Rattle.arimaa_board.specs.declared.turn.NotedStep.{NotedStep}
 use Rattle.arimaa_board.specs.Fit.{IsFit}
-use Rattle.arimaa_board.specs.Noted.{noted_turn}
+use Rattle.arimaa_board.specs.NotedTurns.{noted_turn}
 use Rattle.arimaa_board.specs.Setup.{Lineup}
 use Rattle.arimaa_model.specs.Game.{present}
 use Rattle.arimaa_step.specs.declared.marks.Marks.TheVariants.{Optional}

@@ -7,7 +7,7 @@ use Rattle.std.proofs.lemmas.Bool.Decides.{nat_tests}
 use Rattle.arimaa_board.specs.declared.position.Position.{Position}
 use Rattle.arimaa_board.specs.declared.position.Step.{Step}
 use Rattle.arimaa_board.specs.declared.ending.Ending.{Ending}
-use Rattle.arimaa_model.specs.Decided.{decided}
+use Rattle.arimaa_model.specs.DecidedPositions.{decided}
 use Rattle.arimaa_model.specs.Faults.{applied}
 use Rattle.arimaa_model.specs.Game.{barred_by, count_in, ended_for, ending, ending_at, lawful_at, present}
 use Rattle.arimaa_model.specs.Results.{next, position_of, result_of, results, stands_in}

@@ -13,10 +13,10 @@ use Rattle.arimaa_judge.specs.Agreement.{JudgementsAgree}
 use Rattle.arimaa_model.specs.Game.{barred_by}
 use Rattle.arimaa_model.specs.Results.{next}
 use Rattle.arimaa_record.specs.Lines.{lines_of}
-use Rattle.arimaa_strategy.specs.declared.checked.Checked.{Checked}
-use Rattle.arimaa_strategy.specs.declared.checked.Checked.TheVariants as checks
-use Rattle.arimaa_strategy.specs.declared.checked.Why.{Why}
-use Rattle.arimaa_strategy.specs.declared.checked.Why.TheVariants as why
+use Rattle.arimaa_strategy.specs.declared.check_answer.Checked.{Checked}
+use Rattle.arimaa_strategy.specs.declared.check_answer.Checked.TheVariants as checks
+use Rattle.arimaa_strategy.specs.declared.check_answer.Why.{Why}
+use Rattle.arimaa_strategy.specs.declared.check_answer.Why.TheVariants as why
 use Rattle.arimaa_strategy.specs.declared.fault.StrategyFault.{StrategyFault}
 use Rattle.arimaa_strategy.specs.declared.fault.StrategyFault.TheVariants.{Memory, Text}
 use Rattle.arimaa_strategy.specs.Checks.{HasRoom, IsFirstAsked, IsFirstFault, IsRootAsked, IsRootFault}

@@ -5,7 +5,7 @@ use Rattle.std.specs.List.{AllByRecursion}
 use Rattle.std.specs.Option.{option_map}
 use Rattle.arimaa_judge.specs.declared.judgement.Judged.{Judged}
 use Rattle.arimaa_judge.specs.Agreement.{JudgementsAgree}
-use Rattle.arimaa_judge.specs.Judged.{IsJudged, IsJudgedFrom}
+use Rattle.arimaa_judge.specs.Judgement.{IsJudged, IsJudgedFrom}
 use Rattle.arimaa_judge.specs.RecordState.{before_lines}
 use Rattle.arimaa_judge.specs.Texts.{text_of_bad}
 use Rattle.arimaa_record.specs.Lines.{lines_of}

@@ -3,8 +3,8 @@ use Rattle.std.proofs.Common.{ℕ, List, inl, inr, refl, sym, ◌∙◌, ap, sub
 use Rattle.std.specs.Prelude.{Ok}
 use Rattle.arimaa_board.specs.declared.position.Position.{Position}
 use Rattle.arimaa_refute.specs.declared.escape.Escape.{Escape}
-use Rattle.arimaa_refute.specs.declared.refuted.Refuted.{Refuted}
-use Rattle.arimaa_refute.specs.declared.refuted.Refuted.TheVariants as refuted
+use Rattle.arimaa_refute.specs.declared.refute_answer.Refuted.{Refuted}
+use Rattle.arimaa_refute.specs.declared.refute_answer.Refuted.TheVariants as refuted
 use Rattle.arimaa_refute.specs.Refutations.{IsDone}
 use Rattle.arimaa_cli.specs.declared.answer.Answer.{Answer}
 use Rattle.arimaa_cli.specs.declared.commands.prove.Asked.{Asked}

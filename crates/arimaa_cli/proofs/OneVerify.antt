@@ -15,9 +15,9 @@ use Rattle.arimaa_record.specs.Lines.{lines_of}
 use Rattle.arimaa_refute.specs.declared.escape.Escape.{Escape}
 use Rattle.arimaa_refute.specs.declared.fault.EscapeFault.{EscapeFault}
 use Rattle.arimaa_refute.specs.declared.fault.EscapeFault.TheVariants.{Memory, Text}
-use Rattle.arimaa_refute.specs.declared.verified.Flaw.{Flaw}
-use Rattle.arimaa_refute.specs.declared.verified.Verified.{Verified}
-use Rattle.arimaa_refute.specs.declared.verified.Verified.TheVariants as verdict
+use Rattle.arimaa_refute.specs.declared.verify_answer.Flaw.{Flaw}
+use Rattle.arimaa_refute.specs.declared.verify_answer.Verified.{Verified}
+use Rattle.arimaa_refute.specs.declared.verify_answer.Verified.TheVariants as verdict
 use Rattle.arimaa_refute.specs.Checks.{HasRoom, IsFirstAsked, IsFirstFlaw, IsRootAsked, IsRootFlaw, IsVerified}
 use Rattle.arimaa_refute.specs.Checks.AreAsked.{escape as asked_of, root as asked_root}
 use Rattle.arimaa_refute.specs.Escapes.{Holds}

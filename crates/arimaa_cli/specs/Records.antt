@@ -2,7 +2,7 @@
 use Rattle.std.specs.Prelude.{◌≡◌, ℕ, List}
 use Rattle.arimaa_judge.specs.declared.judgement.Judged.TheVariants as judgement
 use Rattle.arimaa_judge.specs.declared.rule.Rule.{Rule}
-use Rattle.arimaa_judge.specs.Judged.{IsJudged}
+use Rattle.arimaa_judge.specs.Judgement.{IsJudged}
 use Rattle.arimaa_judge.specs.Texts.{text_of_bad}
 use Rattle.arimaa_record.specs.declared.label.Label.{Label}
 use Rattle.arimaa_cli.specs.declared.answer.Answer.{Answer}

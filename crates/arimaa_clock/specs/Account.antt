@@ -3,7 +3,7 @@ use Rattle.std.specs.Prelude.{ℕ, ◌+◌, ◌<◌, ◌⊎◌, Bool, ◌&&◌, 
 use Rattle.arimaa_time.specs.declared.control.Control.{Control}
 use Rattle.arimaa_clock.specs.declared.account.Spend.{Spend}
 use Rattle.arimaa_clock.specs.declared.account.Spend.TheVariants.{Kept, Out}
-use Rattle.arimaa_clock.specs.Standing.{Standing}
+use Rattle.arimaa_clock.specs.ClockState.{Standing}
 use Rattle.arimaa_clock.specs.Reserve.{reserve_after}
 
 -- the time has run out: the turn took more than its own time and the reserve, or more than one turn

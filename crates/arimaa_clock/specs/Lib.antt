@@ -1,3 +1,3 @@
 pub mod Account
 pub mod Reserve
-pub mod Standing
+pub mod ClockState

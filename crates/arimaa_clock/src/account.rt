@@ -25,7 +25,7 @@ pub struct Account {
 }
 
 impl Model for Account {
-    ghost use Rattle.arimaa_clock.specs.Standing.{Standing};
+    ghost use Rattle.arimaa_clock.specs.ClockState.{Standing};
 
     ghost Value = { Standing };
 

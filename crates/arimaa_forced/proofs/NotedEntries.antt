@@ -4,7 +4,7 @@ use Rattle.std.specs.List.{list_all}
 use Rattle.std.proofs.lemmas.Bool.{and_from}
 use Rattle.arimaa_board.specs.declared.board.Board.{Board}
 use Rattle.arimaa_board.specs.declared.position.Step.{Step}
-use Rattle.arimaa_board.specs.Noted.{noted_turn, noted_marks}
+use Rattle.arimaa_board.specs.NotedTurns.{noted_turn, noted_marks}
 use Rattle.arimaa_model.specs.Moves.{after}
 use Rattle.arimaa_model.specs.Marks.{removed_by, marks_right}
 use Rattle.arimaa_model.specs.Strategies.{Planned}

@@ -5,7 +5,7 @@ use Rattle.std.proofs.lemmas.List.{map-append}
 use Rattle.arimaa_board.specs.declared.piece.Color.{Color}
 use Rattle.arimaa_board.specs.Board.{same_color}
 use Rattle.arimaa_board.specs.declared.position.Position.{Position}
-use Rattle.arimaa_model.specs.Decided.{decided}
+use Rattle.arimaa_model.specs.DecidedPositions.{decided}
 use Rattle.arimaa_model.specs.Results.{stands_in, with_new, first_occurrences, next}
 use Rattle.arimaa_model.specs.Wins.{wins}
 use Rattle.arimaa_model.proofs.WinsLaws.{wins-decided}

@@ -7,7 +7,7 @@ use Rattle.arimaa_board.specs.Piece.{other_color}
 use Rattle.arimaa_board.specs.Board.{same_color}
 use Rattle.arimaa_board.specs.declared.position.Position.{Position}
 use Rattle.arimaa_board.specs.declared.ending.Ending.{Ending}
-use Rattle.arimaa_model.specs.Decided.{decided, won_by}
+use Rattle.arimaa_model.specs.DecidedPositions.{decided, won_by}
 use Rattle.arimaa_model.specs.Results.{same_position, stands_in, results, next}
 use Rattle.arimaa_model.specs.Ranks.{above}
 use Rattle.arimaa_model.specs.Wins.{wins}

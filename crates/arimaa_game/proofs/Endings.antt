@@ -11,7 +11,7 @@ use Rattle.arimaa_board.specs.Fit.{IsFit}
 use Rattle.arimaa_board.specs.declared.position.Position.{Position}
 use Rattle.arimaa_board.specs.declared.ending.Ending.{Ending}
 use Rattle.arimaa_board.specs.declared.ending.Word.{Word}
-use Rattle.arimaa_model.specs.Decided.{decided}
+use Rattle.arimaa_model.specs.DecidedPositions.{decided}
 use Rattle.arimaa_model.specs.Game.{IsLawful, closed_by, ended_for, ending, ending_at, lawful_at, present}
 use Rattle.arimaa_model.proofs.Present.{present-push}
 use Rattle.arimaa_model.proofs.Lists.{or-none}

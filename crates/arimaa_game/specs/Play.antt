@@ -3,7 +3,7 @@ use Rattle.std.specs.Prelude.{◌≡◌, ◌==◌, ℕ, ◌-◌, ◌<◌, ◌≤
 use Rattle.std.specs.List.{slice_index_or}
 use Rattle.std.specs.Option.{option_or}
 use Rattle.arimaa_board.specs.Fit.{IsFit}
-use Rattle.arimaa_board.specs.Noted.{noted_marks, noted_turn}
+use Rattle.arimaa_board.specs.NotedTurns.{noted_marks, noted_turn}
 use Rattle.arimaa_board.specs.declared.position.Position.{Position}
 use Rattle.arimaa_board.specs.declared.turn.NotedStep.{NotedStep}
 use Rattle.arimaa_board.specs.declared.position.Step.{Step}

@@ -4,7 +4,7 @@ ghost use Rattle.arimaa_board.specs.declared.piece.Color.TheVariants as colors;
 ghost use Rattle.arimaa_board.specs.declared.piece.Piece.{Piece};
 ghost use Rattle.arimaa_board.specs.declared.position.Position.{Position};
 ghost use Rattle.arimaa_board.specs.Fit.{IsFit};
-ghost use Rattle.arimaa_board.specs.Noted.{noted_marks, noted_turn};
+ghost use Rattle.arimaa_board.specs.NotedTurns.{noted_marks, noted_turn};
 ghost use Rattle.arimaa_model.specs.Game.{IsLawful, closed_by, count_in, ending, present};
 ghost use Rattle.arimaa_model.specs.Marks.{marks_right};
 ghost use Rattle.arimaa_model.specs.FirstFaults.{first_fault_in};

@@ -7,7 +7,7 @@ ghost use Rattle.std.specs.Ordering.{is_eq};
 ghost use Rattle.arimaa_history.specs.declared.key.Key.{Key};
 ghost use Rattle.arimaa_history.specs.Counts.{IsCounted, count_of, has_key, order_of};
 
-use crate::barred::Barred;
+use crate::barred_positions::Barred;
 use crate::key::Key;
 use arimaa_board::Position;
 use std::alloc::{AllocError, Global};

@@ -5,7 +5,7 @@ use Rattle.arimaa_board.specs.declared.ending.Ending.{Ending}
 use Rattle.arimaa_record.specs.declared.line.RecordLine.{RecordLine}
 use Rattle.arimaa_record.specs.declared.line.RecordLine.TheVariants as line
 use Rattle.arimaa_record.specs.Grammar.{IsLineText, IsLineReading}
-use Rattle.arimaa_judge.specs.Judged.{Accepts}
+use Rattle.arimaa_judge.specs.Judgement.{Accepts}
 use Rattle.arimaa_judge.specs.RecordState.{Reading, RecordState, after_line, declared_or}
 use Rattle.arimaa_judge.specs.RecordStateInvariant.{IsByWord, IsGranted}
 use Rattle.arimaa_judge.specs.Rules.{rule_after_closing}

@@ -10,7 +10,7 @@ use Rattle.arimaa_judge.specs.declared.judgement.Judged.TheVariants.{Bad}
 use Rattle.arimaa_judge.specs.declared.rule.Rule.{Rule}
 use Rattle.arimaa_judge.specs.RecordState.{Reading, RecordState, after_reading}
 use Rattle.arimaa_judge.specs.Rules.{rule_at}
-use Rattle.arimaa_judge.specs.Judged.{IsJudgedFrom, IsOutcome, TakesLine, lawful_of}
+use Rattle.arimaa_judge.specs.Judgement.{IsJudgedFrom, IsOutcome, TakesLine, lawful_of}
 
 -- the first line broke a rule
 pub bad_line : (s t : RecordState) (text : List ℕ) (lines : List (List ℕ)) (number : ℕ) (rule : Rule)

@@ -14,7 +14,7 @@ use Rattle.arimaa_record.proofs.LineLaws.{no_lines}
 use Rattle.arimaa_record.proofs.LineGathering.{none_before}
 use Rattle.arimaa_judge.specs.declared.judgement.Judged.{Judged}
 use Rattle.arimaa_judge.specs.declared.progress.Progress.{Progress}
-use Rattle.arimaa_judge.specs.Judged.{IsJudged}
+use Rattle.arimaa_judge.specs.Judgement.{IsJudged}
 use Rattle.arimaa_judge.specs.Stop.{stop_of}
 use Rattle.arimaa_judge.specs.declared.stop.JudgeStop.TheVariants as stop
 use Rattle.arimaa_judge.specs.Progress.{IsAtBegin, LeadsOn, LeadsTo}

@@ -2,7 +2,7 @@
 use Rattle.std.proofs.Common.{◌≡◌, ◌≤◌, ℕ, Bool, true, false, cond, List, [], ◌∷◌, ◌++◌, Option, None, Some, Ok, Err, length, reverse, refl, sym, ap, ◌∙◌, nat_le}
 use Rattle.std.specs.Prelude.{◌==◌, IfErr, OnOk, Result, is_ok, is_some, not}
 use Rattle.std.proofs.lemmas.List.{length-map}
-use Rattle.arimaa_board.specs.Noted.{noted_turn, noted_marks}
+use Rattle.arimaa_board.specs.NotedTurns.{noted_turn, noted_marks}
 use Rattle.arimaa_board.specs.declared.position.Position.{Position}
 use Rattle.arimaa_board.specs.declared.position.Step.{Step}
 use Rattle.arimaa_board.specs.declared.turn.NotedStep.{NotedStep}

@@ -5,7 +5,7 @@ use Rattle.arimaa_record.specs.declared.label.Label.{Label}
 use Rattle.arimaa_judge.specs.declared.judgement.Judged.{Judged}
 use Rattle.arimaa_judge.specs.declared.judgement.Judged.TheVariants.{Bad}
 use Rattle.arimaa_judge.specs.declared.rule.Rule.{Rule}
-use Rattle.arimaa_judge.specs.Judged.{IsJudged}
+use Rattle.arimaa_judge.specs.Judgement.{IsJudged}
 
 -- no input has two judgements
 abbrev pub JudgementsAgree : Type 0

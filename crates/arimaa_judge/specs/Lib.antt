@@ -1,7 +1,7 @@
 pub mod RecordState
 pub mod RecordStateInvariant
 pub mod Rules
-pub mod Judged
+pub mod Judgement
 pub mod Progress
 pub mod Stop
 pub mod Texts

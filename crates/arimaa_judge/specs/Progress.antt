@@ -3,7 +3,7 @@ use Rattle.std.specs.Prelude.{◌≡◌, ℕ, ◌+◌, ◌∷◌, List, None}
 use Rattle.arimaa_judge.specs.declared.judgement.Judged.{Judged}
 use Rattle.arimaa_judge.specs.declared.progress.Progress.{Progress}
 use Rattle.arimaa_judge.specs.RecordState.{before_lines}
-use Rattle.arimaa_judge.specs.Judged.{IsJudgedFrom, IsOutcome}
+use Rattle.arimaa_judge.specs.Judgement.{IsJudgedFrom, IsOutcome}
 
 -- no line was taken
 pub record IsAtBegin (progress : Progress) : Type 0 where

@@ -4,7 +4,7 @@ use Rattle.std.specs.Option.{option_or}
 use Rattle.arimaa_board.specs.declared.position.Position.{Position}
 use Rattle.arimaa_board.specs.declared.turn.NotedStep.{NotedStep}
 use Rattle.arimaa_board.specs.Board.{same_color}
-use Rattle.arimaa_board.specs.Noted.{noted_turn, noted_marks}
+use Rattle.arimaa_board.specs.NotedTurns.{noted_turn, noted_marks}
 use Rattle.arimaa_model.specs.declared.fault.FirstFault.{FirstFault}
 use Rattle.arimaa_model.specs.declared.fault.FirstFault.TheVariants as faults
 use Rattle.arimaa_model.specs.declared.fault.StepFault.{StepFault}

@@ -3,7 +3,7 @@ ghost use Rattle.std.specs.Prelude.{◌≡◌, ◌≤◌, ◌<◌, ℕ, List, []
 ghost use Rattle.std.specs.Io.KnownBytes.{prepend_known};
 ghost use Rattle.arimaa_outside.specs.Faults.{HasRisen};
 ghost use Rattle.arimaa_outside.specs.declared.source.TheConstants.{INPUT_LIMIT};
-ghost use Rattle.arimaa_judge.specs.Judged.{IsJudged, HasFitBoards, HasLawfulTurns, HasTurnCount, HasEnding};
+ghost use Rattle.arimaa_judge.specs.Judgement.{IsJudged, HasFitBoards, HasLawfulTurns, HasTurnCount, HasEnding};
 
 use crate::progress::Progress;
 use crate::rule::Rule;

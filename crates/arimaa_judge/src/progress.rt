@@ -1,6 +1,6 @@
 //! The judgement of a record after some of its lines.
 ghost use Rattle.std.specs.Prelude.{◌≡◌, ◌≤◌, ◌<◌, ◌+◌, ◌^◌, [], OnOk, is_some};
-ghost use Rattle.arimaa_judge.specs.Judged.{HasEnding, HasFitBoards, HasLawfulTurns, HasTurnCount};
+ghost use Rattle.arimaa_judge.specs.Judgement.{HasEnding, HasFitBoards, HasLawfulTurns, HasTurnCount};
 ghost use Rattle.arimaa_judge.specs.Progress.{IsAtBegin, LeadsOn, LeadsTo};
 
 use crate::judgement::Judged;

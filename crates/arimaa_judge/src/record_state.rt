@@ -1,7 +1,7 @@
 //! The state of a record after some of its lines.
 ghost use Rattle.std.specs.Prelude.{◌≡◌, ◌==◌, ◌+◌, ◌-◌, ◌<◌, ◌∷◌, ℕ, Ok, Err, None, Some, IfOk, OnErr, All, not, is_some, if◌then◌else◌};
 ghost use Rattle.arimaa_board.specs.Fit.{IsFit};
-ghost use Rattle.arimaa_board.specs.Noted.{noted_turn};
+ghost use Rattle.arimaa_board.specs.NotedTurns.{noted_turn};
 ghost use Rattle.arimaa_model.specs.Game.{ending};
 ghost use Rattle.arimaa_model.specs.Wins.{is_nil};
 ghost use Rattle.arimaa_game.specs.Play.{AreLawful, turns_in};
@@ -10,7 +10,7 @@ ghost use Rattle.arimaa_record.specs.Label.{next_label};
 ghost use Rattle.arimaa_judge.specs.RecordState.{RecordState as State, after_line, before_lines, declared_or, side_due, with_closing, with_bare, with_played, with_setup, with_start, with_turn, with_turn_back};
 ghost use Rattle.arimaa_judge.specs.RecordStateInvariant.{AreRepeats, IsGranted, IsOpen, IsUnderWay, history_of, labels_before};
 ghost use Rattle.arimaa_judge.specs.Rules.{rule_after_closing, rule_at, rule_of_bare, rule_of_line_fault, rule_of_label, rule_of_line, rule_of_setup, rule_of_start, rule_of_takeback, rule_of_turn_line, same_label, turn_rule};
-ghost use Rattle.arimaa_judge.specs.Judged.{Accepts, TakesLine, HasFitBoards, HasLawfulTurns, HasTurnCount, HasEnding, lawful_of};
+ghost use Rattle.arimaa_judge.specs.Judgement.{Accepts, TakesLine, HasFitBoards, HasLawfulTurns, HasTurnCount, HasEnding, lawful_of};
 
 use crate::game_fault::rule_of_game_fault;
 use crate::judgement::Judged;

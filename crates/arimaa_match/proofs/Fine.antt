@@ -1,7 +1,7 @@
 -- Parts that may meet a fault, one after the other.
 use Rattle.std.proofs.Common.{◌≡◌, List, [], ◌∷◌, ℕ, Option, Result, Ok, Err, refl, subst}
 use Rattle.std.specs.declared.alloc.AllocError.{AllocError}
-use Rattle.arimaa_outside.specs.Told.{TellsMore}
+use Rattle.arimaa_outside.specs.ToldLines.{TellsMore}
 use Rattle.arimaa_outside.proofs.CountLaws.{falls_never}
 use Rattle.arimaa_outside.proofs.ToldLaws.{told_nothing}
 use Rattle.arimaa_match.specs.declared.side_fault.SideFault.{SideFault}

@@ -8,7 +8,7 @@ use Rattle.arimaa_board.specs.declared.position.Position.{Position}
 use Rattle.arimaa_board.specs.declared.turn.NotedStep.{NotedStep}
 use Rattle.arimaa_board.specs.declared.piece.Color.{Color}
 use Rattle.arimaa_board.specs.declared.piece.Color.TheVariants.{Gold, Silver}
-use Rattle.arimaa_board.specs.Noted.{noted_turn}
+use Rattle.arimaa_board.specs.NotedTurns.{noted_turn}
 use Rattle.arimaa_board.specs.Setup.{Lineup}
 use Rattle.arimaa_board.specs.declared.ending.Ending.{Ending}
 use Rattle.arimaa_board.specs.declared.ending.Word.TheVariants as word

@@ -8,7 +8,7 @@ use Rattle.arimaa_record.specs.Lines.{lines_of}
 use Rattle.arimaa_record.specs.Written.{text_of_record}
 use Rattle.arimaa_judge.specs.declared.judgement.Judged.{Judged}
 use Rattle.arimaa_judge.specs.declared.rule.Rule.{Rule}
-use Rattle.arimaa_judge.specs.Judged.{IsJudged, IsJudgedFrom, IsOutcome, lawful_of}
+use Rattle.arimaa_judge.specs.Judgement.{IsJudged, IsJudgedFrom, IsOutcome, lawful_of}
 use Rattle.arimaa_judge.specs.RecordState.{RecordState, after_line, before_lines}
 use Rattle.arimaa_judge.specs.Rules.{rule_at}
 use Rattle.arimaa_board.specs.declared.ending.Ending.{Ending}

@@ -3,7 +3,7 @@ use Rattle.std.proofs.Common.{◌≡◌, ◌∙◌, ◌++◌, List, ℕ, Option,
 use Rattle.std.specs.Prelude.{IsSome}
 use Rattle.std.proofs.lemmas.List.{append_cancel_left}
 use Rattle.std.proofs.lemmas.Option.{same_Some}
-use Rattle.arimaa_outside.specs.Told.{TellsMore, told_after}
+use Rattle.arimaa_outside.specs.ToldLines.{TellsMore, told_after}
 use Rattle.arimaa_match.specs.Laws.{ToldOnce}
 use Rattle.arimaa_outside.specs.declared.port_answer.PortAnswer.{PortAnswer}
 

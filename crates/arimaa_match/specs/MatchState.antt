@@ -10,7 +10,7 @@ use Rattle.arimaa_board.specs.declared.position.Position.{Position}
 use Rattle.arimaa_board.specs.declared.position.Step.{Step}
 use Rattle.arimaa_board.specs.declared.turn.NotedStep.{NotedStep}
 use Rattle.arimaa_board.specs.Piece.{other_color}
-use Rattle.arimaa_board.specs.Noted.{noted_turn}
+use Rattle.arimaa_board.specs.NotedTurns.{noted_turn}
 use Rattle.arimaa_board.specs.Setup.{Lineup}
 use Rattle.arimaa_board.specs.declared.ending.Ending.{Ending}
 use Rattle.arimaa_board.specs.declared.ending.Word.{Word}
@@ -33,7 +33,7 @@ use Rattle.arimaa_aei.specs.declared.command.Command.TheVariants as command
 use Rattle.arimaa_time.specs.declared.control.Control.{Control}
 use Rattle.arimaa_time.specs.declared.control.GameLimit.{GameLimit}
 use Rattle.arimaa_time.specs.declared.control.GameLimit.TheVariants as limit
-use Rattle.arimaa_clock.specs.Standing.{Standing}
+use Rattle.arimaa_clock.specs.ClockState.{Standing}
 use Rattle.arimaa_clock.specs.Account.{answer_of, booked, opened}
 use Rattle.arimaa_clock.specs.declared.account.Spend.{Spend}
 use Rattle.arimaa_clock.specs.declared.account.Spend.TheVariants as spend

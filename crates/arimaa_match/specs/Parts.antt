@@ -7,7 +7,7 @@ use Rattle.arimaa_board.specs.declared.piece.Color.TheVariants.{Gold, Silver}
 use Rattle.arimaa_board.specs.Board.{same_color}
 use Rattle.arimaa_outside.specs.declared.port_answer.PortAnswer.{PortAnswer}
 use Rattle.arimaa_outside.specs.Counts.{Counts, NeverFall}
-use Rattle.arimaa_outside.specs.Told.{TellsMore, told_after}
+use Rattle.arimaa_outside.specs.ToldLines.{TellsMore, told_after}
 use Rattle.arimaa_engine.specs.declared.fault.EngineFault.{EngineFault}
 use Rattle.arimaa_engine.specs.declared.fault.EngineFault.TheVariants as fault
 use Rattle.arimaa_engine.specs.Faults.{IsCause}

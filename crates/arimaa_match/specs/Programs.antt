@@ -5,7 +5,7 @@ use Rattle.arimaa_board.specs.declared.piece.Color.{Color}
 use Rattle.arimaa_board.specs.declared.piece.Color.TheVariants.{Gold, Silver}
 use Rattle.arimaa_outside.specs.Counts.{Counts}
 use Rattle.arimaa_outside.specs.OpenAnswers.{refused_open}
-use Rattle.arimaa_outside.specs.Told.{told_after, told_before}
+use Rattle.arimaa_outside.specs.ToldLines.{told_after, told_before}
 use Rattle.arimaa_outside.specs.declared.open_answer.OpenAnswer.{OpenAnswer}
 use Rattle.arimaa_outside.specs.declared.open_answer.OpenAnswer.TheVariants.{Opened}
 use Rattle.arimaa_outside.specs.declared.port_answer.PortAnswer.{PortAnswer}

@@ -7,7 +7,7 @@ use Rattle.arimaa_record.specs.declared.line.RecordLine.{RecordLine}
 use Rattle.arimaa_record.specs.Written.{IsWritable, text_of_record}
 use Rattle.arimaa_judge.specs.declared.judgement.Judged.{Judged}
 use Rattle.arimaa_judge.specs.declared.judgement.Judged.TheVariants.{Lawful}
-use Rattle.arimaa_judge.specs.Judged.{IsJudged}
+use Rattle.arimaa_judge.specs.Judgement.{IsJudged}
 use Rattle.arimaa_judge.specs.RecordState.{RecordState, after_line, before_lines, state_ending}
 use Rattle.arimaa_judge.specs.Rules.{rule_at}
 use Rattle.arimaa_match.specs.declared.ending.MatchCause.TheVariants as cause

@@ -2,7 +2,7 @@
 use Rattle.std.proofs.Common.{◌≡◌, suc, List, [], ◌∷◌, map, Option, Some, refl, sym, ◌∙◌, ap, subst, arith}
 use Rattle.std.proofs.lemmas.Option.{same_Some}
 use Rattle.arimaa_judge.specs.Agreement.{JudgementsAgree}
-use Rattle.arimaa_judge.specs.Judged.{IsJudged}
+use Rattle.arimaa_judge.specs.Judgement.{IsJudged}
 use Rattle.arimaa_record.specs.Written.{text_of_record}
 use Rattle.arimaa_record.proofs.FormLaws.{head_same, tail_same}
 use Rattle.arimaa_match.specs.declared.ending.MatchDone.{MatchDone}

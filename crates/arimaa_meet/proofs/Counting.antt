@@ -7,7 +7,7 @@ use Rattle.arimaa_match.specs.declared.ending.MatchDone.{MatchDone}
 use Rattle.arimaa_match.specs.declared.ending.MatchEnd.{MatchEnd}
 use Rattle.arimaa_match.specs.declared.ending.MatchEnd.TheVariants as end
 use Rattle.arimaa_match.specs.Records.{ending_in_record, lawful_with}
-use Rattle.arimaa_meet.specs.declared.counted.Counted.{Counted}
+use Rattle.arimaa_meet.specs.declared.match_count.Counted.{Counted}
 use Rattle.arimaa_meet.specs.declared.pairs.Pair.{Pair}
 use Rattle.arimaa_meet.specs.Matches.{MeetMatch}
 use Rattle.arimaa_meet.specs.Scores.{counted, counted_by, faulty_side, is_at_limit, winner_at, winner_of}

@@ -6,7 +6,7 @@ use Rattle.std.specs.declared.alloc.Global.{Global}
 use Rattle.std.proofs.lemmas.Bool.{cases_eq}
 use Rattle.std.proofs.lemmas.List.{drop_all, drop_more, get_or-set_same, get_or-set_other, length-map, length_push, map-append, take_all, take_more}
 use Rattle.arimaa_meet.specs.declared.pairs.Pair.{Pair}
-use Rattle.arimaa_meet.specs.declared.told.Told.{Told}
+use Rattle.arimaa_meet.specs.declared.match_report.Told.{Told}
 use Rattle.arimaa_meet.specs.Matches.{MeetMatch}
 use Rattle.arimaa_meet.specs.Shares.{AreShares, AreTold, IsTold, dealt_from, dealt_to}
 use Rattle.arimaa_meet.proofs.Dealing.{dealt_head, dealt_last, dealt_other, dealt_skip}

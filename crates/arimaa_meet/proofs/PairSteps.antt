@@ -3,7 +3,7 @@ use Rattle.std.proofs.Common.{◌≡◌, ℕ, ◌+◌, List, [], ◌∷◌, ◌+
 use Rattle.std.specs.List.{flat_map}
 use Rattle.std.proofs.lemmas.Bool.{eq-eqb, ne_eqb}
 use Rattle.std.proofs.lemmas.Grind.{flat_map-append}
-use Rattle.arimaa_meet.specs.declared.counted.Counted.{Counted}
+use Rattle.arimaa_meet.specs.declared.match_count.Counted.{Counted}
 use Rattle.arimaa_meet.specs.declared.pairs.Pair.{Pair}
 use Rattle.arimaa_meet.specs.Pairs.{numbers, pairs_with_gold}
 use Rattle.arimaa_meet.specs.Report.{text_of_score, text_of_table}

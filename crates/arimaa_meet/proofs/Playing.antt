@@ -9,7 +9,7 @@ use Rattle.arimaa_time.specs.declared.control.Control.{Control}
 use Rattle.arimaa_match.specs.declared.ending.MatchDone.{MatchDone}
 use Rattle.arimaa_meet.specs.declared.pairs.Pair.{Pair}
 use Rattle.arimaa_meet.specs.Seats.{PlaysMatch, PlaysMatches, Seat}
-use Rattle.arimaa_meet.specs.declared.told.Told.{Told}
+use Rattle.arimaa_meet.specs.declared.match_report.Told.{Told}
 use Rattle.arimaa_meet.specs.Matches.{MeetMatch, outcome_of}
 use Rattle.arimaa_meet.specs.Shares.{HasPlayedPair, IsTold, dealt_to}
 use Rattle.arimaa_meet.proofs.Dealing.{dealt_last, dealt_other}

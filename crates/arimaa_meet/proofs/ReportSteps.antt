@@ -6,9 +6,9 @@ use Rattle.arimaa_board.specs.declared.piece.Color.TheVariants.{Gold}
 use Rattle.arimaa_judge.specs.declared.judgement.Judged.TheVariants.{Lawful}
 use Rattle.arimaa_match.specs.declared.ending.MatchEnd.TheVariants.{Limit}
 use Rattle.arimaa_match.specs.Texts.{text_of_match}
-use Rattle.arimaa_meet.specs.declared.counted.Counted.{Counted}
+use Rattle.arimaa_meet.specs.declared.match_count.Counted.{Counted}
 use Rattle.arimaa_meet.specs.declared.pairs.Pair.{Pair}
-use Rattle.arimaa_meet.specs.declared.told.Told.{Told}
+use Rattle.arimaa_meet.specs.declared.match_report.Told.{Told}
 use Rattle.arimaa_meet.specs.Matches.{IsJudgedMatch, MeetMatch}
 use Rattle.arimaa_meet.specs.Report.{line_of_pair, text_of_matches}
 use Rattle.arimaa_meet.specs.Scores.{counted}

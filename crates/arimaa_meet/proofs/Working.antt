@@ -11,7 +11,7 @@ use Rattle.arimaa_outside.specs.declared.port_answer.PortAnswer.{PortAnswer}
 use Rattle.arimaa_time.specs.declared.control.Control.{Control}
 use Rattle.arimaa_meet.specs.declared.meet.Meet.{Meet}
 use Rattle.arimaa_meet.specs.declared.pairs.Pair.{Pair}
-use Rattle.arimaa_meet.specs.declared.told.Told.{Told}
+use Rattle.arimaa_meet.specs.declared.match_report.Told.{Told}
 use Rattle.arimaa_meet.specs.declared.workers.Worker.{Worker}
 use Rattle.arimaa_meet.specs.Matches.{MeetMatch, outcome_of}
 use Rattle.arimaa_meet.specs.Seats.{PlaysMatches, Seat}

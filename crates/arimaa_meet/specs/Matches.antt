@@ -3,7 +3,7 @@ use Rattle.std.specs.Prelude.{Result, Ok}
 use Rattle.std.specs.declared.alloc.AllocError.{AllocError}
 use Rattle.arimaa_record.specs.Written.{text_of_record}
 use Rattle.arimaa_judge.specs.declared.judgement.Judged.{Judged}
-use Rattle.arimaa_judge.specs.Judged.{IsJudged}
+use Rattle.arimaa_judge.specs.Judgement.{IsJudged}
 use Rattle.arimaa_match.specs.declared.ending.MatchDone.{MatchDone}
 use Rattle.arimaa_meet.specs.declared.pairs.Pair.{Pair}
 

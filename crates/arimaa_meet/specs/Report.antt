@@ -4,7 +4,7 @@ use Rattle.std.specs.Fmt.{decimal}
 use Rattle.std.specs.List.{flat_map}
 use Rattle.arimaa_judge.specs.Texts.{line}
 use Rattle.arimaa_match.specs.Texts.{text_of_match}
-use Rattle.arimaa_meet.specs.declared.counted.Counted.{Counted}
+use Rattle.arimaa_meet.specs.declared.match_count.Counted.{Counted}
 use Rattle.arimaa_meet.specs.declared.pairs.Pair.{Pair}
 use Rattle.arimaa_meet.specs.declared.table.Score.{Score}
 use Rattle.arimaa_meet.specs.Matches.{MeetMatch}

@@ -7,7 +7,7 @@ use Rattle.arimaa_judge.specs.declared.judgement.Judged.TheVariants as judgement
 use Rattle.arimaa_match.specs.declared.ending.MatchCause.TheVariants as cause
 use Rattle.arimaa_match.specs.declared.ending.MatchEnd.{MatchEnd}
 use Rattle.arimaa_match.specs.declared.ending.MatchEnd.TheVariants as end
-use Rattle.arimaa_meet.specs.declared.counted.Counted.{Counted}
+use Rattle.arimaa_meet.specs.declared.match_count.Counted.{Counted}
 use Rattle.arimaa_meet.specs.declared.pairs.Pair.{Pair}
 use Rattle.arimaa_meet.specs.declared.table.Score.{Score}
 use Rattle.arimaa_meet.specs.Matches.{MeetMatch}

@@ -8,7 +8,7 @@ use Rattle.arimaa_outside.specs.declared.port_answer.PortAnswer.{PortAnswer}
 use Rattle.arimaa_time.specs.declared.control.Control.{Control}
 use Rattle.arimaa_match.specs.Texts.{text_of_match}
 use Rattle.arimaa_meet.specs.declared.pairs.Pair.{Pair}
-use Rattle.arimaa_meet.specs.declared.told.Told.{Told}
+use Rattle.arimaa_meet.specs.declared.match_report.Told.{Told}
 use Rattle.arimaa_meet.specs.Matches.{IsJudgedMatch, MeetMatch, outcome_of}
 use Rattle.arimaa_meet.specs.Scores.{counted}
 use Rattle.arimaa_meet.specs.Seats.{PlaysMatch, PlaysMatches, Seat}

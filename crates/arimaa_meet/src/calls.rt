@@ -14,7 +14,7 @@ use crate::gather::gather;
 use crate::meet::Meet;
 use crate::pairs::all_pairs;
 use crate::report::report;
-use crate::told::Told;
+use crate::match_report::Told;
 use crate::words::{Asked, read_meet};
 use crate::workers::play_shares;
 use arimaa_outside::{Clock, CommandWords, Sink, Spawner, Status, write_answer};

@@ -4,7 +4,7 @@ ghost use Rattle.arimaa_meet.specs.Matches.{MeetMatch};
 ghost use Rattle.arimaa_meet.specs.Shares.{AreShares, AreTold};
 
 use crate::pairs::Pair;
-use crate::told::Told;
+use crate::match_report::Told;
 use std::alloc::{AllocError, Global};
 
 // Takes what is told of each match out of the share of its worker, in the order of the matches.

@@ -3,14 +3,14 @@
 #![tactic(auto)]
 
 mod calls;
-mod counted;
+mod match_count;
 mod gather;
 mod laws;
 mod meet;
 mod pairs;
 mod report;
 mod table;
-mod told;
+mod match_report;
 mod words;
 mod workers;
 

@@ -3,9 +3,9 @@ ghost use Rattle.std.specs.Prelude.{◌<◌, IfOk};
 ghost use Rattle.arimaa_meet.specs.Seats.{seat_of};
 ghost use Rattle.arimaa_meet.specs.Shares.{HasPlayedPair, HasPlayedShare};
 
-use crate::counted::Counted;
+use crate::match_count::Counted;
 use crate::pairs::Pair;
-use crate::told::Told;
+use crate::match_report::Told;
 use arimaa_match::{match_text, play_programs};
 use arimaa_outside::{Clock, CommandWords, Spawner};
 use arimaa_time::Control;

@@ -9,7 +9,7 @@ ghost use Rattle.arimaa_meet.specs.declared.words.TheConstants.{MOST_PROGRAMS};
 
 use crate::pairs::Pair;
 use crate::table::{push_count, push_table};
-use crate::told::Told;
+use crate::match_report::Told;
 use std::alloc::{AllocError, Global};
 
 // Adds a match, by its number: a line with its programs, and its text.

@@ -5,7 +5,7 @@ ghost use Rattle.arimaa_meet.specs.Scores.{is_fault_of, is_limit_of, is_loss_of,
 ghost use Rattle.arimaa_meet.specs.Report.{text_of_score, text_of_table};
 ghost use Rattle.arimaa_meet.specs.declared.words.TheConstants.{MOST_PROGRAMS as MOST};
 
-use crate::counted::Counted;
+use crate::match_count::Counted;
 use itoa::Buffer;
 use std::alloc::AllocError;
 

@@ -6,7 +6,7 @@ ghost use Rattle.arimaa_meet.specs.Shares.{HavePlayedShares};
 ghost use Rattle.arimaa_meet.specs.Workers.{HasWorked};
 
 use crate::meet::{Meet, play_share};
-use crate::told::Told;
+use crate::match_report::Told;
 use arimaa_outside::{Clock, Spawner};
 use std::alloc::{AllocError, Global};
 use std::thread;

@@ -2,7 +2,7 @@
 ghost use Rattle.std.specs.Prelude.{◌≡◌, ℕ, [], not, false, IfOk, IfSome, IfNone};
 ghost use Rattle.std.specs.List.{list_any, filter};
 ghost use Rattle.arimaa_model.specs.Results.{next, results, stands_in};
-ghost use Rattle.arimaa_model.specs.Decided.{decided};
+ghost use Rattle.arimaa_model.specs.DecidedPositions.{decided};
 ghost use Rattle.arimaa_model.specs.Wins.{is_nil, wins, wins_among, settled_for};
 ghost use Rattle.arimaa_model.specs.Ranks.{IsRank};
 

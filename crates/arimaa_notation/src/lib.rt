@@ -8,7 +8,7 @@ mod letters;
 mod number;
 mod setup;
 mod turn;
-mod written;
+mod writer;
 
 pub use fault::NoteFault;
 pub use items::{first_item, is_blank, trim, trim_start};
@@ -16,7 +16,7 @@ pub use laws::{setups_apart, turns_apart};
 pub use number::read_number;
 pub use setup::read_setup;
 pub use turn::read_turn;
-pub use written::{setup_text, turn_text};
+pub use writer::{setup_text, turn_text};
 
 #[cfg(test)]
 mod tests;

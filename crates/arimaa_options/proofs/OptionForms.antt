@@ -4,7 +4,7 @@ use Rattle.std.specs.Prelude.{◌==◌, slice_get, zero, IfNone, if◌then◌els
 use Rattle.std.specs.Option.{unwrap_or}
 use Rattle.std.proofs.lemmas.Fmt.{decimal_injective}
 use Rattle.arimaa_options.specs.declared.search_options.SearchOptions.{SearchOptions}
-use Rattle.arimaa_options.specs.declared.given.Given.{Given}
+use Rattle.arimaa_options.specs.declared.option_values.Given.{Given}
 use Rattle.arimaa_options.specs.declared.setting.Setting.{Setting}
 use Rattle.arimaa_options.specs.declared.setting.Setting.TheVariants.{Depth, Workers, Lines, Budget, Room}
 use Rattle.arimaa_options.specs.Options.{AreOptions, AreWithinRanges, Give, IsOption, given_for, least_of, options_of, most_of, nothing_given, with_number, word_of}

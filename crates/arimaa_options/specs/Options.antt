@@ -3,7 +3,7 @@ use Rattle.std.specs.Prelude.{◌≡◌, ◌≤◌, ◌^◌, ℕ, List, [], ◌�
 use Rattle.std.specs.Option.{unwrap_or}
 use Rattle.std.specs.Fmt.{decimal}
 use Rattle.arimaa_pool.specs.Limits.{AreWithinLimits}
-use Rattle.arimaa_options.specs.declared.given.Given.{Given}
+use Rattle.arimaa_options.specs.declared.option_values.Given.{Given}
 use Rattle.arimaa_options.specs.declared.search_options.SearchOptions.{SearchOptions}
 use Rattle.arimaa_options.specs.declared.setting.Setting.{Setting}
 use Rattle.arimaa_options.specs.declared.setting.Setting.TheVariants.{Depth, Workers, Lines, Budget, Room}

@@ -2,9 +2,9 @@
 //! may use.
 #![tactic(auto)]
 
-mod given;
+mod option_values;
 mod search_options;
 mod setting;
 
-pub use given::read_up_to;
+pub use option_values::read_up_to;
 pub use search_options::{MOST_PLACES_OF_ALL, SearchOptions, read_options};

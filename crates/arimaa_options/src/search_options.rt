@@ -3,7 +3,7 @@ ghost use Rattle.std.specs.Prelude.{◌≤◌, drop, length, IfNone, IfSome};
 ghost use Rattle.arimaa_options.specs.declared.search_options.SearchOptions.{SearchOptions as Values};
 ghost use Rattle.arimaa_options.specs.Options.{AreOptions, AreWithinRanges};
 
-use crate::given::read_given;
+use crate::option_values::read_given;
 use arimaa_outside::CommandWords;
 use arimaa_pool::Settings;
 

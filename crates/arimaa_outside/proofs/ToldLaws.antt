@@ -1,6 +1,6 @@
 -- What was told over several calls.
 use Rattle.std.proofs.Common.{◌≡◌, ◌∙◌, ◌++◌, List, [], Option, None, Some, ap, append_assoc, append-nil, refl, sym}
-use Rattle.arimaa_outside.specs.Told.{told_after}
+use Rattle.arimaa_outside.specs.ToldLines.{told_after}
 
 -- no call
 pub told_nothing : {X : Type 0} (told : Option (List X)) → told ≡ told_after told []

@@ -1,13 +1,13 @@
 -- What a port answered to a call. Want of memory is no answer: the call can be made again.
 use Rattle.std.specs.Prelude.{ℕ, List, [], ◌∷◌, Result, Ok, Err}
-use Rattle.arimaa_outside.specs.declared.heard.Heard.{Heard}
-use Rattle.arimaa_outside.specs.declared.heard.Heard.TheVariants as heard
+use Rattle.arimaa_outside.specs.declared.receipt.Heard.{Heard}
+use Rattle.arimaa_outside.specs.declared.receipt.Heard.TheVariants as heard
 use Rattle.arimaa_outside.specs.declared.port_answer.PortAnswer.{PortAnswer}
 use Rattle.arimaa_outside.specs.declared.port_answer.PortAnswer.TheVariants as answer
 use Rattle.arimaa_outside.specs.declared.port_fault.PortFault.{PortFault}
 use Rattle.arimaa_outside.specs.declared.port_fault.PortFault.TheVariants as fault
-use Rattle.arimaa_outside.specs.declared.said.Said.{Said}
-use Rattle.arimaa_outside.specs.declared.said.Said.TheVariants as said
+use Rattle.arimaa_outside.specs.declared.speech.Said.{Said}
+use Rattle.arimaa_outside.specs.declared.speech.Said.TheVariants as said
 
 -- what was said, where it was heard so and this is the line
 abbrev pub said_as : Heard → List ℕ → Said

@@ -10,5 +10,5 @@ pub mod MemSpawner
 pub mod OpenAnswers
 pub mod Status
 pub mod StdPort
-pub mod Told
+pub mod ToldLines
 pub mod Writing

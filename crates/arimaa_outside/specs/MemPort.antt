@@ -5,8 +5,8 @@ use Rattle.arimaa_outside.specs.Counts.{Counts, capped_sum}
 use Rattle.arimaa_outside.specs.declared.port.TheConstants.{LINE_LIMIT}
 use Rattle.arimaa_outside.specs.declared.port_answer.PortAnswer.{PortAnswer}
 use Rattle.arimaa_outside.specs.declared.port_answer.PortAnswer.TheVariants as answer
-use Rattle.arimaa_outside.specs.declared.said.Said.{Said}
-use Rattle.arimaa_outside.specs.declared.said.Said.TheVariants as said
+use Rattle.arimaa_outside.specs.declared.speech.Said.{Said}
+use Rattle.arimaa_outside.specs.declared.speech.Said.TheVariants as said
 
 -- what is left of its script, the lines that it was sent, what it answered, its calls, its stops
 -- and its lines

@@ -3,7 +3,7 @@ ghost use Rattle.std.specs.Prelude.{◌≡◌, ◌+◌, ◌-◌, ◌^◌, ◌≤
 ghost use Rattle.arimaa_outside.specs.Calls.{NextFails, after_fault, after_success};
 ghost use Rattle.arimaa_outside.specs.Counts.{capped_sum};
 
-use crate::failed::Failed;
+use crate::failure::Failed;
 use std::marker::Model;
 
 /// Which calls of an object fail, by their numbers from 1, and what was counted so far.

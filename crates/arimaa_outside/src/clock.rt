@@ -1,6 +1,6 @@
 //! The time, in milliseconds.
 ghost use Rattle.std.specs.Prelude.{◌≡◌, ◌≤◌, ◌∷◌, [], ℕ, List, Option};
-ghost use Rattle.arimaa_outside.specs.Told.{TellsMore};
+ghost use Rattle.arimaa_outside.specs.ToldLines.{TellsMore};
 
 /// What gives moments. A moment counts milliseconds from some fixed start.
 pub trait Clock {

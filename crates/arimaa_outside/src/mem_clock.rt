@@ -2,7 +2,7 @@
 ghost use Rattle.std.specs.Prelude.{◌≡◌, ◌≤◌, ◌∷◌, []};
 ghost use Rattle.std.specs.List.Sorted.{IsNonDecreasing};
 ghost use Rattle.arimaa_outside.specs.MemClock.{after_moment, moments_given};
-ghost use Rattle.arimaa_outside.specs.Told.{TellsMore};
+ghost use Rattle.arimaa_outside.specs.ToldLines.{TellsMore};
 
 use crate::clock::Clock;
 use std::marker::Model;

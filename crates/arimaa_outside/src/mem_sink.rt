@@ -3,7 +3,7 @@ ghost use Rattle.std.specs.Prelude.{◌≡◌, ◌<◌, ◌≤◌, ◌++◌, [],
 ghost use Rattle.arimaa_outside.specs.Calls.{NextFails, after_fault, after_success};
 
 use crate::calls::Calls;
-use crate::failed::Failed;
+use crate::failure::Failed;
 use crate::sink::Sink;
 use std::alloc::Global;
 use std::marker::Model;

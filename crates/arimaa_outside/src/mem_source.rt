@@ -5,7 +5,7 @@ ghost use Rattle.arimaa_outside.specs.Calls.{NextFails, after_fault, after_succe
 ghost use Rattle.arimaa_outside.specs.MemSource.{read_len};
 
 use crate::calls::Calls;
-use crate::failed::Failed;
+use crate::failure::Failed;
 use crate::source::Source;
 use std::marker::Model;
 

@@ -9,7 +9,7 @@ ghost use Rattle.arimaa_outside.specs.MemSpawner.{IsFresh, after_closing, after_
 ghost use Rattle.arimaa_outside.specs.OpenAnswers.{open_answer, opened_count};
 
 use crate::calls::Calls;
-use crate::failed::Failed;
+use crate::failure::Failed;
 use crate::lists::put;
 use crate::mem_port::MemPort;
 use crate::open_answer::OpenAnswer;

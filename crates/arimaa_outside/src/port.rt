@@ -3,10 +3,10 @@ ghost use Rattle.std.specs.Prelude.{◌≡◌, ◌≤◌, ◌∷◌, [], ℕ, Li
 ghost use Rattle.arimaa_outside.specs.Answers.{receive_answer, send_answer};
 ghost use Rattle.arimaa_outside.specs.Counts.{Counts, NeverFall};
 ghost use Rattle.arimaa_outside.specs.Faults.{HasRisen};
-ghost use Rattle.arimaa_outside.specs.Told.{told_after};
+ghost use Rattle.arimaa_outside.specs.ToldLines.{told_after};
 ghost use Rattle.arimaa_outside.specs.declared.port_answer.PortAnswer.{PortAnswer};
 
-use crate::heard::Heard;
+use crate::receipt::Heard;
 use crate::port_fault::PortFault;
 
 /// The most bytes of a line that is received: 65,536, without its line end.

@@ -1,5 +1,5 @@
 //! What a port answered.
-use crate::said::Said;
+use crate::speech::Said;
 
 /// What a port answered to one call. Want of memory is no answer.
 #[derive(Drop)]

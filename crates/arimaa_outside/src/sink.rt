@@ -5,7 +5,7 @@ ghost use Rattle.arimaa_outside.specs.Faults.{HasRisen};
 ghost use Rattle.arimaa_outside.specs.Writing.{EndsWith};
 ghost use Rattle.arimaa_outside.specs.declared.status.Status.TheVariants.{WriteFault};
 
-use crate::failed::Failed;
+use crate::failure::Failed;
 use crate::status::Status;
 
 /// What takes bytes.

@@ -4,7 +4,7 @@ ghost use Rattle.std.specs.Io.KnownBytes.{IsAtEnd, prepend_known};
 ghost use Rattle.arimaa_outside.specs.Faults.{HasRisen};
 ghost use Rattle.arimaa_outside.specs.declared.source.ReadAll.TheVariants.{Fault, Memory};
 
-use crate::failed::Failed;
+use crate::failure::Failed;
 use std::alloc::{AllocError, Global};
 use thiserror::Error;
 

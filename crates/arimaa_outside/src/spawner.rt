@@ -3,7 +3,7 @@ ghost use Rattle.std.specs.Prelude.{◌≡◌, ◌∷◌, [], List, Option, IfOk
 ghost use Rattle.arimaa_outside.specs.Counts.{Counts, NeverFall, no_counts, sum_of_counts};
 ghost use Rattle.arimaa_outside.specs.Faults.{HasRisen};
 ghost use Rattle.arimaa_outside.specs.OpenAnswers.{TookBackFewer, TookBackNoMore, open_answer};
-ghost use Rattle.arimaa_outside.specs.Told.{told_after, told_before};
+ghost use Rattle.arimaa_outside.specs.ToldLines.{told_after, told_before};
 ghost use Rattle.arimaa_outside.specs.declared.open_answer.OpenAnswer.{OpenAnswer};
 
 use crate::port::Port;

@@ -4,7 +4,7 @@ ghost use Rattle.arimaa_outside.specs.Counts.{NeverFall, no_counts};
 ghost use Rattle.arimaa_outside.specs.Faults.{HasRisen};
 ghost use Rattle.arimaa_outside.specs.StdPort.{counts_of};
 
-use crate::heard::Heard;
+use crate::receipt::Heard;
 use crate::port::{LINE_LIMIT, Port};
 use crate::port_fault::PortFault;
 use std::io::{Read, Write};

@@ -3,7 +3,7 @@ ghost use Rattle.std.specs.Prelude.{◌≡◌, ◌<◌, ◌≤◌, IfOk, None, O
 ghost use Rattle.std.specs.Io.KnownBytes.{WriteAppends};
 ghost use Rattle.arimaa_outside.specs.Faults.{HasRisen};
 
-use crate::failed::Failed;
+use crate::failure::Failed;
 use crate::sink::Sink;
 use std::io::Write;
 

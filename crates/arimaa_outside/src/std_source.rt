@@ -3,7 +3,7 @@ ghost use Rattle.std.specs.Prelude.{◌≡◌, ◌≤◌, IfOk, None, OnErr, OnO
 ghost use Rattle.std.specs.Io.KnownBytes.{ReadConsumes};
 ghost use Rattle.arimaa_outside.specs.Faults.{HasRisen};
 
-use crate::failed::Failed;
+use crate::failure::Failed;
 use crate::source::Source;
 use std::io::Read;
 

@@ -11,7 +11,7 @@ use Rattle.arimaa_jobs.specs.declared.jobs.Jobs.{Jobs}
 use Rattle.arimaa_jobs.specs.Rule.{Stands, ends_above}
 use Rattle.arimaa_jobs.specs.Seats.{IsSeatOf, count_of, view}
 use Rattle.arimaa_pool.specs.declared.stopped_job.StoppedJob.{StoppedJob}
-use Rattle.arimaa_pool.specs.declared.seated.Seated.{Seated}
+use Rattle.arimaa_pool.specs.declared.seat.Seated.{Seated}
 use Rattle.arimaa_pool.specs.Stops.{IsStop}
 use Rattle.arimaa_pool.specs.Terms.{Terms}
 

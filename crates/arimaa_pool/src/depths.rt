@@ -1,6 +1,6 @@
 //! The root is asked about at growing depths, up to the first yes.
 ghost use Rattle.std.specs.Prelude.{◌≡◌, suc, ◌+◌, ◌<◌, ◌≤◌, [], ◌∷◌, None, false, IfOk, IfErr, OnOk};
-ghost use Rattle.arimaa_model.specs.Decided.{decided};
+ghost use Rattle.arimaa_model.specs.DecidedPositions.{decided};
 ghost use Rattle.arimaa_model.specs.Members.{Stands};
 ghost use Rattle.arimaa_model.specs.Ranks.{rank_within};
 ghost use Rattle.arimaa_model.specs.Results.{next};

@@ -11,7 +11,7 @@ mod failure;
 mod gate;
 mod meet_gate;
 mod proof;
-mod seated;
+mod seat;
 mod settings;
 mod shift;
 mod stop;

@@ -10,7 +10,7 @@ ghost use Rattle.arimaa_pool.specs.Stops.{IsStop};
 use crate::asker::Asker;
 use crate::crew::Crew;
 use crate::gate::Gate;
-use crate::seated::Seated;
+use crate::seat::Seated;
 use crate::stop::Stop;
 use crate::stopped_job::{StoppedJob, earlier};
 use arimaa_board::Position;

@@ -10,7 +10,7 @@ mod line_reader;
 mod lines;
 mod reader;
 mod record;
-mod written;
+mod writer;
 
 pub use arimaa_notation::read_number;
 pub use fault::{LineFault, RecordFault};
@@ -21,7 +21,7 @@ pub use line_reader::LineReader;
 pub use lines::first_line;
 pub use reader::{is_blank_line, read_line};
 pub use record::{Record, read_record};
-pub use written::{push_label, push_line, record_text};
+pub use writer::{push_label, push_line, record_text};
 
 #[cfg(test)]
 mod line_tests;

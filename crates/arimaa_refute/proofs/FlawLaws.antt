@@ -7,14 +7,14 @@ use Rattle.arimaa_board.specs.Piece.{other_color}
 use Rattle.arimaa_board.specs.Board.{same_color}
 use Rattle.arimaa_board.specs.declared.position.Position.{Position}
 use Rattle.arimaa_board.specs.declared.ending.Ending.{Ending}
-use Rattle.arimaa_model.specs.Decided.{decided}
+use Rattle.arimaa_model.specs.DecidedPositions.{decided}
 use Rattle.arimaa_model.specs.Results.{stands_in, next}
 use Rattle.arimaa_model.proofs.Lists.{is_some-None}
 use Rattle.arimaa_strategy.specs.Faults.{led_to}
 use Rattle.arimaa_strategy.proofs.FaultLaws.{leads, led}
 use Rattle.arimaa_refute.specs.declared.escape.Escape.{Escape}
-use Rattle.arimaa_refute.specs.declared.verified.Flaw.{Flaw}
-use Rattle.arimaa_refute.specs.declared.verified.Flaw.TheVariants as flaw
+use Rattle.arimaa_refute.specs.declared.verify_answer.Flaw.{Flaw}
+use Rattle.arimaa_refute.specs.declared.verify_answer.Flaw.TheVariants as flaw
 use Rattle.arimaa_refute.specs.Escapes.{entry_of, are_safe, held_for, IsGoodEscape, AreGoodEscapes}
 use Rattle.arimaa_refute.specs.Flaws.{positions_of, flaw_by, flaw_after, flaw_of, AreFlawless}
 use Rattle.arimaa_refute.specs.Checks.{IsFrom}

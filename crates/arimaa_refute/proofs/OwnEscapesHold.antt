@@ -8,7 +8,7 @@ use Rattle.arimaa_board.specs.declared.piece.Color.{Color}
 use Rattle.arimaa_board.specs.Board.{same_color}
 use Rattle.arimaa_board.specs.declared.position.Position.{Position}
 use Rattle.arimaa_board.specs.declared.position.Step.{Step}
-use Rattle.arimaa_model.specs.Decided.{decided}
+use Rattle.arimaa_model.specs.DecidedPositions.{decided}
 use Rattle.arimaa_model.specs.Results.{stands_in, result_of, turn_lists, next}
 use Rattle.arimaa_model.specs.Wins.{wins, wins_among}
 use Rattle.arimaa_model.specs.Strategies.{Planned, open_replies, open_after}

@@ -6,7 +6,7 @@ use Rattle.std.proofs.lemmas.Bool.{false_from_ne_true}
 use Rattle.arimaa_board.specs.declared.piece.Color.{Color}
 use Rattle.arimaa_board.specs.Board.{same_color}
 use Rattle.arimaa_board.specs.declared.position.Position.{Position}
-use Rattle.arimaa_model.specs.Decided.{decided}
+use Rattle.arimaa_model.specs.DecidedPositions.{decided}
 use Rattle.arimaa_model.specs.Members.{Stands}
 use Rattle.arimaa_model.specs.Results.{first_occurrences, next}
 use Rattle.arimaa_model.specs.Wins.{wins}
@@ -21,8 +21,8 @@ use Rattle.arimaa_forced.proofs.Trees.{tree-size, tree-crowd, cost-size}
 use Rattle.arimaa_region.specs.Segments.{live_of}
 use Rattle.arimaa_search.proofs.Lists.{first_left}
 use Rattle.arimaa_refute.specs.declared.escape.Escape.{Escape}
-use Rattle.arimaa_refute.specs.declared.refuted.Refuted.{Refuted}
-use Rattle.arimaa_refute.specs.declared.refuted.Refuted.TheVariants as refuted
+use Rattle.arimaa_refute.specs.declared.refute_answer.Refuted.{Refuted}
+use Rattle.arimaa_refute.specs.declared.refute_answer.Refuted.TheVariants as refuted
 use Rattle.arimaa_refute.specs.Escapes.{Holds}
 use Rattle.arimaa_refute.specs.OwnEscapes.{fresh, escapes_from, met_first, turns_left, escapes_of}
 use Rattle.arimaa_refute.specs.Refutations.{Terms, IsBelow, WantsEscape, first_queue, HasEscapes, IsRefuted, IsDone}

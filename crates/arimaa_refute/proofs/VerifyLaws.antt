@@ -9,16 +9,16 @@ use Rattle.arimaa_board.specs.declared.piece.Color.{Color}
 use Rattle.arimaa_board.specs.Board.{same_color}
 use Rattle.arimaa_board.specs.declared.position.Position.{Position}
 use Rattle.arimaa_board.specs.declared.ending.Ending.{Ending}
-use Rattle.arimaa_model.specs.Decided.{decided}
+use Rattle.arimaa_model.specs.DecidedPositions.{decided}
 use Rattle.arimaa_model.specs.Results.{stands_in, next}
 use Rattle.arimaa_model.specs.Wins.{wins}
 use Rattle.arimaa_model.proofs.Positions.{same_color-Decides}
 use Rattle.arimaa_strategy.specs.Faults.{led_to}
 use Rattle.arimaa_refute.specs.declared.escape.Escape.{Escape}
-use Rattle.arimaa_refute.specs.declared.verified.Flaw.{Flaw}
-use Rattle.arimaa_refute.specs.declared.verified.Flaw.TheVariants as flaw
-use Rattle.arimaa_refute.specs.declared.verified.Verified.{Verified}
-use Rattle.arimaa_refute.specs.declared.verified.Verified.TheVariants as verified
+use Rattle.arimaa_refute.specs.declared.verify_answer.Flaw.{Flaw}
+use Rattle.arimaa_refute.specs.declared.verify_answer.Flaw.TheVariants as flaw
+use Rattle.arimaa_refute.specs.declared.verify_answer.Verified.{Verified}
+use Rattle.arimaa_refute.specs.declared.verify_answer.Verified.TheVariants as verified
 use Rattle.arimaa_refute.specs.declared.look.Look.{Look}
 use Rattle.arimaa_refute.specs.declared.look.Look.TheVariants as looks
 use Rattle.arimaa_refute.specs.declared.look.Finding.{Finding}

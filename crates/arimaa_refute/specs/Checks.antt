@@ -4,15 +4,15 @@ use Rattle.std.specs.List.{Contains}
 use Rattle.arimaa_board.specs.declared.piece.Color.{Color}
 use Rattle.arimaa_board.specs.Piece.{other_color}
 use Rattle.arimaa_board.specs.declared.position.Position.{Position}
-use Rattle.arimaa_model.specs.Decided.{decided}
+use Rattle.arimaa_model.specs.DecidedPositions.{decided}
 use Rattle.arimaa_model.specs.Results.{stands_in, next}
 use Rattle.arimaa_model.specs.Wins.{wins}
 use Rattle.arimaa_strategy.specs.Faults.{led_to}
 use Rattle.arimaa_refute.specs.declared.escape.Escape.{Escape}
-use Rattle.arimaa_refute.specs.declared.verified.Flaw.{Flaw}
-use Rattle.arimaa_refute.specs.declared.verified.Flaw.TheVariants as flaw
-use Rattle.arimaa_refute.specs.declared.verified.Verified.{Verified}
-use Rattle.arimaa_refute.specs.declared.verified.Verified.TheVariants as verified
+use Rattle.arimaa_refute.specs.declared.verify_answer.Flaw.{Flaw}
+use Rattle.arimaa_refute.specs.declared.verify_answer.Flaw.TheVariants as flaw
+use Rattle.arimaa_refute.specs.declared.verify_answer.Verified.{Verified}
+use Rattle.arimaa_refute.specs.declared.verify_answer.Verified.TheVariants as verified
 use Rattle.arimaa_refute.specs.Escapes.{entry_of, is_root_held, Holds}
 use Rattle.arimaa_refute.specs.OwnEscapes.{escapes_of}
 use Rattle.arimaa_refute.specs.Flaws.{positions_of, flaw_of, AreFlawless}

@@ -12,8 +12,8 @@ use Rattle.arimaa_refute.specs.declared.failure.Reason.{Reason}
 use Rattle.arimaa_refute.specs.declared.failure.Reason.TheVariants as reason
 use Rattle.arimaa_refute.specs.declared.failure.Failure.{Failure}
 use Rattle.arimaa_refute.specs.declared.failure.Failure.TheVariants as failure
-use Rattle.arimaa_refute.specs.declared.refuted.Refuted.{Refuted}
-use Rattle.arimaa_refute.specs.declared.refuted.Refuted.TheVariants as refuted
+use Rattle.arimaa_refute.specs.declared.refute_answer.Refuted.{Refuted}
+use Rattle.arimaa_refute.specs.declared.refute_answer.Refuted.TheVariants as refuted
 use Rattle.arimaa_refute.specs.Escapes.{Holds}
 use Rattle.arimaa_refute.specs.OwnEscapes.{IsUnwon, after_escape, fresh, met_first, turns_left, escapes_of}
 

@@ -20,10 +20,10 @@ mod reader;
 mod refutation;
 #[cfg(test)]
 mod refutation_tests;
-mod refuted;
+mod refute_answer;
 #[cfg(test)]
 mod tests;
-mod verified;
+mod verify_answer;
 mod verifier;
 #[cfg(test)]
 mod verifier_tests;
@@ -35,7 +35,7 @@ pub use fault::EscapeFault;
 pub use laws::{held_roots_are_not_won, own_escapes_hold};
 pub use reader::read_escapes;
 pub use refutation::refute;
-pub use refuted::Refuted;
-pub use verified::{Flaw, Verified};
+pub use refute_answer::Refuted;
+pub use verify_answer::{Flaw, Verified};
 pub use verifier::verify;
 pub use written_form::escapes_text;

@@ -1,5 +1,5 @@
 //! What the checker finds at an escape or at the root.
-use crate::verified::Flaw;
+use crate::verify_answer::Flaw;
 use arimaa_board::Position;
 
 // What a look at a position with the attacker to move finds.

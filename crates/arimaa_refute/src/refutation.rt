@@ -8,7 +8,7 @@ ghost use Rattle.arimaa_refute.specs.Refutations.{IsBelow, IsDone, IsFailure, Is
 use crate::asker::Asker;
 use crate::failure::{Failure, Reason};
 use crate::maker::make;
-use crate::refuted::Refuted;
+use crate::refute_answer::Refuted;
 use arimaa_board::{Color, Position};
 use arimaa_history::History;
 use arimaa_region::Region;

@@ -14,7 +14,7 @@ ghost use Rattle.arimaa_refute.specs.Findings.{first_answer, root_look, root_ans
 use crate::escape::Escape;
 use crate::escapes::Escapes;
 use crate::look::{Finding, Look};
-use crate::verified::{Flaw, Verified};
+use crate::verify_answer::{Flaw, Verified};
 use arimaa_board::{Color, Position};
 use arimaa_history::{Barred, History};
 use arimaa_model::decided;

@@ -1,8 +1,8 @@
 -- What a placing does.
 use Rattle.std.specs.Prelude.{ℕ, ◌≡◌, ◌↔◌, ◌≤◌, Bool, List, ◌∷◌, length, Some, IsTrue, Contains, slice_get, if◌then◌else◌}
 use Rattle.arimaa_board.specs.declared.position.Position.{Position}
-use Rattle.arimaa_region.specs.declared.placed.Placed.{Placed}
-use Rattle.arimaa_region.specs.Placed.{is_there, is_full, IfThere, IfNew}
+use Rattle.arimaa_region.specs.declared.placement.Placed.{Placed}
+use Rattle.arimaa_region.specs.Placement.{is_there, is_full, IfThere, IfNew}
 use Rattle.arimaa_region.specs.Same.{same_position, same_words, with_new}
 use Rattle.arimaa_region.specs.Layout.{IsDistinct}
 use Rattle.arimaa_region.specs.Segments.{Stacked, Held, top, below_top, live_of}

@@ -7,7 +7,7 @@ ghost use Rattle.arimaa_region.specs.Segments.{below_top, live_of, lowest, segme
 use crate::bucket::{bucket, buckets_for};
 use crate::index::Index;
 use crate::key::Key;
-use crate::placed::Placed;
+use crate::placement::Placed;
 use crate::probe::find;
 use std::alloc::{AllocError, Global};
 use std::marker::Model;

@@ -4,8 +4,8 @@ use Rattle.std.specs.List.{flat_map}
 use Rattle.arimaa_board.specs.declared.position.Position.{Position}
 use Rattle.arimaa_board.specs.declared.position.Step.{Step}
 use Rattle.arimaa_model.proofs.Lists.{flat_map-agree, flat_map-map}
-use Rattle.arimaa_step.specs.declared.accepted.AcceptedSteps.{AcceptedSteps}
-use Rattle.arimaa_step.specs.Accepted.{AreEnding}
+use Rattle.arimaa_step.specs.declared.accepted_steps.AcceptedSteps.{AcceptedSteps}
+use Rattle.arimaa_step.specs.AcceptedSteps.{AreEnding}
 use Rattle.arimaa_step.specs.declared.state.TurnState.{TurnState}
 use Rattle.arimaa_step.specs.Next.{state_end}
 use Rattle.arimaa_results.specs.Ahead.{next_states, given_by, brings_now, brings}

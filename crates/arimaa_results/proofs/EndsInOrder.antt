@@ -13,10 +13,10 @@ use Rattle.arimaa_model.specs.Plain.{steps_of}
 use Rattle.arimaa_model.specs.Results.{step_of}
 use Rattle.arimaa_model.proofs.Lists.{flat_map-flat_map, flat_map-map}
 use Rattle.arimaa_model.proofs.Reaching.{candidates-is}
-use Rattle.arimaa_step.specs.declared.accepted.AcceptedSteps.{AcceptedSteps}
+use Rattle.arimaa_step.specs.declared.accepted_steps.AcceptedSteps.{AcceptedSteps}
 use Rattle.arimaa_step.specs.declared.state.TurnState.{TurnState}
-use Rattle.arimaa_step.specs.Accepted.{ends_by, ends_content, mask_towards}
-use Rattle.arimaa_step.specs.Commuting.{commutes_before, AreEndingInOrder}
+use Rattle.arimaa_step.specs.AcceptedSteps.{ends_by, ends_content, mask_towards}
+use Rattle.arimaa_step.specs.CommutingSteps.{commutes_before, AreEndingInOrder}
 use Rattle.arimaa_step.specs.Next.{next_answer, next_state, cuts_next, state_end, goes_alone}
 use Rattle.arimaa_results.specs.Ahead.{given_by}
 use Rattle.arimaa_results.specs.LastSteps.{ends_with, ends_in_order, brings_in_order}

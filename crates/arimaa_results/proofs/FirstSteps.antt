@@ -10,7 +10,7 @@ use Rattle.arimaa_board.specs.declared.square.Dir.TheVariants.{North, East, Sout
 use Rattle.arimaa_board.specs.Masks.{IsMaskOf, is_in, first_in}
 use Rattle.arimaa_board.proofs.Friends.{is_one}
 use Rattle.arimaa_board.proofs.Finds.{all_fail}
-use Rattle.arimaa_step.specs.declared.accepted.AcceptedSteps.{AcceptedSteps}
+use Rattle.arimaa_step.specs.declared.accepted_steps.AcceptedSteps.{AcceptedSteps}
 use Rattle.arimaa_results.specs.NextStates.{has_step, same_dir, IsFirstDirection, IsTaken}
 
 -- a square is in a mask exactly where it passes the test

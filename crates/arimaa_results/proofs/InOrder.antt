@@ -23,7 +23,7 @@ use Rattle.arimaa_step.proofs.StepOrder.{Rising, candidates-rising, stands_befor
 use Rattle.arimaa_step.proofs.FourthSteps.{with_steps, all_pairs}
 use Rattle.arimaa_results.specs.Ahead.{states_by, next_states}
 use Rattle.arimaa_results.specs.LastSteps.{is_next, left_after, brings_first, left_of_kept, brings_last}
-use Rattle.arimaa_results.specs.Layering.{keeps, planes_after, layer}
+use Rattle.arimaa_results.specs.Layers.{keeps, planes_after, layer}
 use Rattle.arimaa_results.specs.NextStates.{pairs_by, next_pairs}
 use Rattle.arimaa_results.proofs.Beginning.{grows_fits}
 use Rattle.arimaa_results.proofs.Keeping.{with_new-there, with_new-old, with_new-new, In-firsts}

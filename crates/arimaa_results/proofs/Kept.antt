@@ -9,7 +9,7 @@ use Rattle.arimaa_board.specs.declared.position.Step.{Step}
 use Rattle.arimaa_step.specs.declared.state.TurnState.{TurnState}
 use Rattle.arimaa_step.specs.StateWords.{state_in_planes}
 use Rattle.arimaa_region.specs.Segments.{live_of, below_top, top}
-use Rattle.arimaa_results.specs.Layering.{layer, layers_to}
+use Rattle.arimaa_results.specs.Layers.{layer, layers_to}
 use Rattle.arimaa_results.proofs.Layers.{IsRead, reading, layers_to-zero, layers_to-suc, layers-count, live-more, live-parts}
 use Rattle.arimaa_results.specs.LastSteps.{is_next, left_after, brings_first, left_of_kept, brings_last}
 use Rattle.arimaa_results.specs.NextStates.{next_pairs}

@@ -12,10 +12,10 @@ use Rattle.arimaa_model.specs.Plain.{steps_of}
 use Rattle.arimaa_model.specs.Results.{step_of}
 use Rattle.arimaa_model.proofs.Lists.{flat_map-flat_map}
 use Rattle.arimaa_model.proofs.Reaching.{candidates-is}
-use Rattle.arimaa_step.specs.declared.accepted.AcceptedSteps.{AcceptedSteps}
+use Rattle.arimaa_step.specs.declared.accepted_steps.AcceptedSteps.{AcceptedSteps}
 use Rattle.arimaa_step.specs.declared.state.TurnState.{TurnState}
-use Rattle.arimaa_step.specs.Accepted.{accepts, accepts_content, mask_towards}
-use Rattle.arimaa_step.specs.Commuting.{comes_turned, AreAcceptedInOrder}
+use Rattle.arimaa_step.specs.AcceptedSteps.{accepts, accepts_content, mask_towards}
+use Rattle.arimaa_step.specs.CommutingSteps.{comes_turned, AreAcceptedInOrder}
 use Rattle.arimaa_step.specs.Next.{next_answer, next_state}
 use Rattle.arimaa_results.specs.Ahead.{states_by}
 use Rattle.arimaa_results.specs.LastSteps.{gives_in_order, next_in_order}

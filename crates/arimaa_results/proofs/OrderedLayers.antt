@@ -13,7 +13,7 @@ use Rattle.arimaa_model.proofs.Members.{In, flat_map-In}
 use Rattle.arimaa_model.proofs.Positions.{same_position-Decides}
 use Rattle.arimaa_region.specs.Same.{same_words, same_words-Decides, firsts}
 use Rattle.arimaa_step.specs.declared.state.TurnState.{TurnState}
-use Rattle.arimaa_step.specs.Commuting.{comes_turned}
+use Rattle.arimaa_step.specs.CommutingSteps.{comes_turned}
 use Rattle.arimaa_step.specs.Next.{next_answer, next_state, state_end}
 use Rattle.arimaa_step.specs.State.{state_of}
 use Rattle.arimaa_step.specs.StateWords.{state_planes, state_in_planes}
@@ -22,7 +22,7 @@ use Rattle.arimaa_step.proofs.LeavingOut.{IsLess, less_parts}
 use Rattle.arimaa_step.proofs.ThirdSteps.{IsTurned, is_turned}
 use Rattle.arimaa_results.specs.Ahead.{states_by, next_states, given_by, brings_now, brings}
 use Rattle.arimaa_results.specs.LastSteps.{gives_in_order, next_in_order, brings_in_order, brings_first, brings_last}
-use Rattle.arimaa_results.specs.Layering.{keeps, planes_after, layer, brought_from}
+use Rattle.arimaa_results.specs.Layers.{keeps, planes_after, layer, brought_from}
 use Rattle.arimaa_results.specs.NextStates.{next_pairs}
 use Rattle.arimaa_results.proofs.Bringing.{brings-suc, brings-zero}
 use Rattle.arimaa_results.proofs.InOrder.{Made, in_order, start_in_order}

@@ -20,10 +20,10 @@ use Rattle.arimaa_model.specs.Plain.{candidates, steps_of}
 use Rattle.arimaa_model.specs.Results.{step_of}
 use Rattle.arimaa_model.proofs.Lists.{flat_map-agree, flat_map-flat_map, flat_map-map}
 use Rattle.arimaa_model.proofs.Reaching.{candidates-is}
-use Rattle.arimaa_step.specs.declared.accepted.AcceptedSteps.{AcceptedSteps}
+use Rattle.arimaa_step.specs.declared.accepted_steps.AcceptedSteps.{AcceptedSteps}
 use Rattle.arimaa_step.specs.declared.state.StepDone.{StepDone}
 use Rattle.arimaa_step.specs.declared.state.TurnState.{TurnState}
-use Rattle.arimaa_step.specs.Accepted.{accepts, accepts_content, ends_by, ends_content, AreAccepted, AreEnding, mask_towards}
+use Rattle.arimaa_step.specs.AcceptedSteps.{accepts, accepts_content, ends_by, ends_content, AreAccepted, AreEnding, mask_towards}
 use Rattle.arimaa_step.specs.Next.{next_answer, next_fault, next_state, cuts_next, state_end}
 use Rattle.arimaa_step.specs.State.{trap_first}
 use Rattle.arimaa_step.proofs.AcceptedLaws.{and_false}

@@ -7,7 +7,7 @@ use Rattle.arimaa_board.specs.declared.position.Step.{Step}
 use Rattle.arimaa_model.specs.Plain.{candidates}
 use Rattle.arimaa_region.specs.Same.{same_words}
 use Rattle.arimaa_step.specs.declared.state.TurnState.{TurnState}
-use Rattle.arimaa_step.specs.Commuting.{commutes_before, comes_turned}
+use Rattle.arimaa_step.specs.CommutingSteps.{commutes_before, comes_turned}
 use Rattle.arimaa_step.specs.Next.{next_answer, next_state, state_end, goes_alone}
 use Rattle.arimaa_step.specs.StateWords.{state_planes, state_in_planes}
 use Rattle.arimaa_results.specs.Ahead.{given_by, states_by}

@@ -13,9 +13,9 @@ use Rattle.arimaa_board.specs.Masks.{is_in}
 use Rattle.arimaa_board.specs.Square.{directions}
 use Rattle.arimaa_model.specs.Plain.{candidates}
 use Rattle.arimaa_model.specs.Results.{step_of}
-use Rattle.arimaa_step.specs.declared.accepted.AcceptedSteps.{AcceptedSteps}
+use Rattle.arimaa_step.specs.declared.accepted_steps.AcceptedSteps.{AcceptedSteps}
 use Rattle.arimaa_step.specs.declared.state.TurnState.{TurnState}
-use Rattle.arimaa_step.specs.Accepted.{accepts, ends_by, mask_towards}
+use Rattle.arimaa_step.specs.AcceptedSteps.{accepts, ends_by, mask_towards}
 use Rattle.arimaa_step.specs.Next.{next_answer, next_state, state_end}
 use Rattle.arimaa_results.specs.Ahead.{states_by}
 

@@ -3,10 +3,10 @@ ghost use Rattle.std.specs.Prelude.{◌≡◌, ◌<◌, ◌↔◌, length, is_so
 ghost use Rattle.std.specs.List.{list_any};
 ghost use Rattle.arimaa_model.specs.Results.{results, next, result_of, stands_in};
 ghost use Rattle.arimaa_model.specs.Strategies.{first_turn};
-ghost use Rattle.arimaa_results.specs.Passing.{first_passing, brings_passing};
+ghost use Rattle.arimaa_results.specs.Conditions.{first_passing, brings_passing};
 
 use crate::first_wanted::walk;
-use crate::wanted::{AnyPosition, OnePosition, Unbarred, Wanted};
+use crate::condition::{AnyPosition, OnePosition, Unbarred, Wanted};
 use arimaa_board::{Position, Turn};
 use arimaa_history::Barred;
 use arimaa_step::TurnState;

@@ -3,7 +3,7 @@ ghost use Rattle.std.specs.Prelude.{◌≡◌, ◌+◌, ◌<◌, ◌∷◌, suc,
 ghost use Rattle.arimaa_model.specs.Results.{next};
 ghost use Rattle.std.specs.List.{list_any};
 ghost use Rattle.arimaa_region.specs.Segments.{below_top, live_of, top};
-ghost use Rattle.arimaa_results.specs.Listed.{IsListed, is_won_by};
+ghost use Rattle.arimaa_results.specs.ListsToWin.{IsListed, is_won_by};
 
 use crate::layer_lists::{layered, layered_to_win};
 use crate::stop::LayerFull;

@@ -10,7 +10,7 @@ use Rattle.arimaa_model.specs.Turns.{after_all, is_turn}
 use Rattle.arimaa_model.proofs.RelatedTurns.{turn-Decides}
 use Rattle.arimaa_step.specs.Future.{IsTurnTo}
 use Rattle.arimaa_region.specs.Same.{same_position, same_position-Decides, firsts}
-use Rattle.arimaa_results.specs.Passing.{brings_passing, first_passing}
+use Rattle.arimaa_results.specs.Conditions.{brings_passing, first_passing}
 use Rattle.arimaa_results.proofs.Firsts.{filter-firsts}
 use Rattle.arimaa_results.proofs.Found.{filter-any}
 use Rattle.arimaa_results.specs.Ahead.{allowed}

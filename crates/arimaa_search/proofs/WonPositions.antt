@@ -8,12 +8,12 @@ use Rattle.arimaa_board.specs.declared.piece.Color.TheVariants.{Gold, Silver}
 use Rattle.arimaa_board.specs.Board.{same_color}
 use Rattle.arimaa_board.specs.declared.position.Position.{Position}
 use Rattle.arimaa_board.specs.declared.ending.Ending.{Ending}
-use Rattle.arimaa_model.specs.Decided.{decided}
+use Rattle.arimaa_model.specs.DecidedPositions.{decided}
 use Rattle.arimaa_model.specs.Results.{next}
 use Rattle.arimaa_model.specs.Wins.{wins}
 use Rattle.arimaa_model.proofs.WinsLaws.{wins-decided}
 use Rattle.arimaa_forced.specs.Search.{is_decisive}
-use Rattle.arimaa_results.specs.Listed.{is_won_by}
+use Rattle.arimaa_results.specs.ListsToWin.{is_won_by}
 use Rattle.arimaa_search.specs.Traces.{GoesPast}
 
 -- what the side to move has won is decisive, for the attacker and against it

@@ -1,4 +1,4 @@
 pub mod Workers
-pub mod Asking
+pub mod PaidAnswers
 pub mod Questions
 pub mod Traces

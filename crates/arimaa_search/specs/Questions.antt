@@ -5,8 +5,8 @@ use Rattle.arimaa_board.specs.declared.position.Position.{Position}
 use Rattle.arimaa_model.specs.Wins.{wins}
 use Rattle.arimaa_forced.specs.Search.{cost, crowd}
 use Rattle.arimaa_line.specs.declared.line.Line.{Line}
-use Rattle.arimaa_search.specs.declared.asked.Asked.{Asked}
-use Rattle.arimaa_search.specs.declared.asked.Asked.TheVariants.{Yes, No, Spent, Crowded}
+use Rattle.arimaa_search.specs.declared.answer.Asked.{Asked}
+use Rattle.arimaa_search.specs.declared.answer.Asked.TheVariants.{Yes, No, Spent, Crowded}
 use Rattle.arimaa_search.specs.Traces.{Tells}
 
 -- the answer on p and n, with this room and this budget, where so many questions were opened: a verdict is right, and a stop names the question and has its cause

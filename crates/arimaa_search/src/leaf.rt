@@ -1,6 +1,6 @@
 //! What a position tells without a look at its next positions.
 ghost use Rattle.std.specs.Prelude.{◌≡◌, None};
-ghost use Rattle.arimaa_model.specs.Decided.{decided};
+ghost use Rattle.arimaa_model.specs.DecidedPositions.{decided};
 ghost use Rattle.arimaa_model.specs.Wins.{wins};
 ghost use Rattle.arimaa_table.specs.Passes.{setting_of};
 

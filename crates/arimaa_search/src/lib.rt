@@ -1,7 +1,7 @@
 //! The search for forced wins at any depth, over a table of lines that threads may share.
 #![tactic(auto)]
 
-mod asked;
+mod answer;
 mod first_reply;
 mod leaf;
 mod line;
@@ -11,5 +11,5 @@ mod stop;
 mod tests;
 mod worker;
 
-pub use asked::Asked;
+pub use answer::Asked;
 pub use worker::Worker;

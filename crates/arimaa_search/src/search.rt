@@ -1,13 +1,13 @@
 //! A question is asked: its line answers it, or it is opened.
 ghost use Rattle.std.specs.Prelude.{◌≡◌, ℕ, ◌+◌, ◌-◌, ◌<◌, ◌≤◌, suc, length, OnOk, IfOk, None};
 ghost use Rattle.std.specs.List.{list_any};
-ghost use Rattle.arimaa_model.specs.Decided.{decided};
+ghost use Rattle.arimaa_model.specs.DecidedPositions.{decided};
 ghost use Rattle.arimaa_forced.specs.Search.{cost};
 ghost use Rattle.arimaa_region.specs.Segments.{live_of, below_top, top};
-ghost use Rattle.arimaa_results.specs.Listed.{IsListed, is_won_by};
+ghost use Rattle.arimaa_results.specs.ListsToWin.{IsListed, is_won_by};
 ghost use Rattle.arimaa_line.specs.Index.{place_of};
 ghost use Rattle.arimaa_table.specs.Passes.{lines_of, setting_of, steps_of, place_view, IsPassOf, KeepsNoOlder, NoFewer};
-ghost use Rattle.arimaa_search.specs.Asking.{Answered};
+ghost use Rattle.arimaa_search.specs.PaidAnswers.{Answered};
 ghost use Rattle.arimaa_search.specs.Traces.{GoesPast, Stepped, SteppedThrough, Tells};
 
 use crate::first_reply::first_reply;

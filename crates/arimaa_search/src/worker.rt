@@ -1,13 +1,13 @@
 //! A worker asks questions within a budget and a room.
 ghost use Rattle.std.specs.Prelude.{◌≡◌, ℕ, ◌-◌, ◌<◌, ◌≤◌, IfOk, None};
-ghost use Rattle.arimaa_model.specs.Decided.{decided};
+ghost use Rattle.arimaa_model.specs.DecidedPositions.{decided};
 ghost use Rattle.arimaa_forced.specs.Search.{cost, crowd};
 ghost use Rattle.arimaa_line.specs.Index.{place_of};
 ghost use Rattle.arimaa_table.specs.Passes.{lines_of, setting_of, steps_of, place_view, IsPassOf, KeepsNoOlder, NoFewer};
 ghost use Rattle.arimaa_search.specs.Questions.{IsAnswer, IsTold, IsVerdict};
 ghost use Rattle.arimaa_search.specs.Traces.{Stepped, SteppedThrough};
 
-use crate::asked::Asked;
+use crate::answer::Asked;
 use crate::search::ask;
 use crate::stop::Stop;
 use arimaa_board::Position;

@@ -22,8 +22,8 @@ use Rattle.arimaa_model.specs.Faults.{unless}
 use Rattle.arimaa_model.specs.Results.{step_of}
 use Rattle.arimaa_step.specs.declared.state.TurnState.{TurnState}
 use Rattle.arimaa_step.specs.Next.{could_push, completes_push, completes_pull, cuts_next, next_answer}
-use Rattle.arimaa_step.specs.declared.accepted.AcceptedSteps.{AcceptedSteps}
-use Rattle.arimaa_step.specs.Accepted.{AreAccepted, AreEnding, accepts, accepts_content, ends_by, ends_content, may_go, may_be_pushed, is_left, may_push, may_be_pulled}
+use Rattle.arimaa_step.specs.declared.accepted_steps.AcceptedSteps.{AcceptedSteps}
+use Rattle.arimaa_step.specs.AcceptedSteps.{AreAccepted, AreEnding, accepts, accepts_content, ends_by, ends_content, may_go, may_be_pushed, is_left, may_push, may_be_pulled}
 
 -- laws of tests
 pub and_true : (x : Bool) → (x && true) ≡ x

@@ -13,7 +13,7 @@ use Rattle.arimaa_model.proofs.Growing.{single_fits, half_fits}
 use Rattle.arimaa_step.specs.declared.state.TurnState.{TurnState}
 use Rattle.arimaa_step.specs.State.{trap_first}
 use Rattle.arimaa_step.specs.Next.{completes_push, completes_pull, goes_alone, begins_push, ends_move, cuts_next, next_state, next_answer}
-use Rattle.arimaa_step.specs.Accepted.{ends_content}
+use Rattle.arimaa_step.specs.AcceptedSteps.{ends_content}
 use Rattle.arimaa_board.specs.declared.square.Dir.{Dir}
 use Rattle.arimaa_board.specs.Square.{next_square}
 use Rattle.arimaa_model.specs.Results.{step_of}

@@ -19,7 +19,7 @@ use Rattle.arimaa_model.proofs.Pushers.{held_piece, after_settled}
 use Rattle.arimaa_model.proofs.Listed.{In-range}
 use Rattle.arimaa_step.specs.declared.state.TurnState.{TurnState}
 use Rattle.arimaa_step.specs.Next.{next_state, next_answer, state_end, goes_alone}
-use Rattle.arimaa_step.specs.Commuting.{commutes, commutes_before}
+use Rattle.arimaa_step.specs.CommutingSteps.{commutes, commutes_before}
 use Rattle.arimaa_step.proofs.Turned.{Goes, single_goes, may_be_turned}
 use Rattle.arimaa_step.proofs.TurnedEnds.{ends_commute, ended_alone}
 use Rattle.arimaa_step.proofs.LeavingOut.{IsLess, AreLess, less_parts, left_out}

@@ -21,7 +21,7 @@ use Rattle.arimaa_model.proofs.Shades.{across}
 use Rattle.arimaa_step.specs.declared.state.TurnState.{TurnState}
 use Rattle.arimaa_step.specs.State.{left_if}
 use Rattle.arimaa_step.specs.Next.{next_state, next_answer, cuts_next, goes_alone, begins_push, ends_move, completes_push, completes_pull}
-use Rattle.arimaa_step.specs.Commuting.{commutes, commutes_before, moves_calmly, goes_calmly, comes_turned}
+use Rattle.arimaa_step.specs.CommutingSteps.{commutes, commutes_before, moves_calmly, goes_calmly, comes_turned}
 use Rattle.arimaa_step.proofs.AnswerLaws.{ok_parts, moves_fit}
 use Rattle.arimaa_step.proofs.FourthSteps.{goes_in}
 use Rattle.arimaa_step.proofs.Sameness.{color_is}

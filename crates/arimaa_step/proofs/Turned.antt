@@ -18,7 +18,7 @@ use Rattle.arimaa_model.specs.Moves.{target, enters, fits, is_free, after, is_ow
 use Rattle.arimaa_model.proofs.Shades.{across}
 use Rattle.arimaa_model.proofs.Removals.{way_back}
 use Rattle.arimaa_model.proofs.Pushers.{settle_twice, after_is, free_square, after_settled, on_board, held_piece, clear, beside_traps, list_any-agree, at-settle}
-use Rattle.arimaa_step.specs.Commuting.{is_of, is_close, is_trap_of, in_zone, commutes, MayBeTurned}
+use Rattle.arimaa_step.specs.CommutingSteps.{is_of, is_close, is_trap_of, in_zone, commutes, MayBeTurned}
 
 -- ---- tests of the four directions
 

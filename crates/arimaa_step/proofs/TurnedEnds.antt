@@ -17,7 +17,7 @@ use Rattle.arimaa_model.specs.Results.{position_of}
 use Rattle.arimaa_step.specs.declared.state.TurnState.{TurnState}
 use Rattle.arimaa_step.specs.State.{left_if}
 use Rattle.arimaa_step.specs.Next.{next_state, next_answer, state_end, cuts_next, goes_alone, begins_push, ends_move, completes_push, completes_pull}
-use Rattle.arimaa_step.specs.Commuting.{in_zone, commutes, EndTurned}
+use Rattle.arimaa_step.specs.CommutingSteps.{in_zone, commutes, EndTurned}
 use Rattle.arimaa_step.proofs.Turned.{may_be_turned, single_goes, outside_away, outside_to}
 
 -- a step that goes alone is accepted

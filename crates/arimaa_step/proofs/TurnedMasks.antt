@@ -8,9 +8,9 @@ use Rattle.arimaa_board.specs.declared.piece.Piece.{Piece}
 use Rattle.arimaa_board.specs.declared.square.Dir.{Dir}
 use Rattle.arimaa_board.specs.declared.square.Dir.TheVariants.{North, East, South, West}
 use Rattle.arimaa_step.specs.declared.earlier_steps.EarlierSteps.{EarlierSteps}
-use Rattle.arimaa_step.specs.declared.accepted.AcceptedSteps.{AcceptedSteps}
+use Rattle.arimaa_step.specs.declared.accepted_steps.AcceptedSteps.{AcceptedSteps}
 use Rattle.arimaa_step.specs.declared.state.TurnState.{TurnState}
-use Rattle.arimaa_step.specs.Accepted.{accepts, ends_by, mask_towards, AreAccepted, AreEnding}
+use Rattle.arimaa_step.specs.AcceptedSteps.{accepts, ends_by, mask_towards, AreAccepted, AreEnding}
 use Rattle.arimaa_board.specs.declared.position.Step.{Step}
 use Rattle.arimaa_board.specs.Square.{next_square, is_trap}
 use Rattle.arimaa_board.specs.Masks.{bit_of, IsMaskOf, passes, is_beside}
@@ -20,7 +20,7 @@ use Rattle.arimaa_board.proofs.Beside.{upto_all}
 use Rattle.arimaa_board.proofs.MaskLaws.{and_mask, or_mask, not_mask, like_mask}
 use Rattle.std.proofs.lemmas.Bool.{eqb-true}
 use Rattle.std.proofs.Math.Bool.{and-true, and_comm}
-use Rattle.arimaa_step.specs.Commuting.{is_of, is_close, is_trap_of, in_zone, commutes, commutes_before, moves_calmly, goes_calmly, AreEarlier, AreOthers, AreAcceptedInOrder, AreEndingInOrder}
+use Rattle.arimaa_step.specs.CommutingSteps.{is_of, is_close, is_trap_of, in_zone, commutes, commutes_before, moves_calmly, goes_calmly, AreEarlier, AreOthers, AreAcceptedInOrder, AreEndingInOrder}
 use Rattle.arimaa_step.specs.Next.{next_state, goes_alone}
 
 -- the ones below a place

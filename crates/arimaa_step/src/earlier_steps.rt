@@ -6,12 +6,12 @@ ghost use Rattle.arimaa_board.specs.Masks.{IsMaskOf, passes};
 ghost use Rattle.arimaa_board.specs.Square.{next_square};
 ghost use Rattle.arimaa_board.specs.declared.position.Step.{Step};
 ghost use Rattle.arimaa_step.specs.declared.state.TurnState.{TurnState};
-ghost use Rattle.arimaa_step.specs.Accepted.{AreAccepted, mask_towards};
+ghost use Rattle.arimaa_step.specs.AcceptedSteps.{AreAccepted, mask_towards};
 ghost use Rattle.arimaa_step.specs.Next.{next_answer, next_state};
-ghost use Rattle.arimaa_step.specs.Commuting.{is_of, is_close, is_trap_of, in_zone, earlier_towards, commutes_before, AreEarlier, AreOthers, moves_calmly, goes_calmly, AreAcceptedInOrder, AreEndingInOrder, StepsCommute, EndsCommute};
+ghost use Rattle.arimaa_step.specs.CommutingSteps.{is_of, is_close, is_trap_of, in_zone, earlier_towards, commutes_before, AreEarlier, AreOthers, moves_calmly, goes_calmly, AreAcceptedInOrder, AreEndingInOrder, StepsCommute, EndsCommute};
 ghost use Rattle.arimaa_model.specs.Results.{step_of};
 
-use crate::accepted::AcceptedSteps;
+use crate::accepted_steps::AcceptedSteps;
 use crate::state::TurnState;
 use arimaa_board::{Dir, Square, Step, entering, mask_of, neighbours};
 

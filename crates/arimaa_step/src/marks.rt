@@ -1,6 +1,6 @@
 //! The pieces that steps remove, and the marks that name them.
 ghost use Rattle.std.specs.Prelude.{◌≡◌, ◌↔◌, ℕ, IsTrue, IsOk, Err, IfErr, IfOk, OnOk};
-ghost use Rattle.arimaa_board.specs.Noted.{noted_turn, noted_marks};
+ghost use Rattle.arimaa_board.specs.NotedTurns.{noted_turn, noted_marks};
 ghost use Rattle.arimaa_model.specs.Faults.{applied};
 ghost use Rattle.arimaa_model.specs.Marks.{marks_of, same_mark, marks_right};
 ghost use Rattle.arimaa_step.specs.declared.marks.Marks.TheVariants.{Required};

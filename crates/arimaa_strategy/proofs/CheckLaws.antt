@@ -9,7 +9,7 @@ use Rattle.arimaa_board.specs.declared.piece.Color.{Color}
 use Rattle.arimaa_board.specs.Board.{same_color}
 use Rattle.arimaa_board.specs.declared.position.Position.{Position}
 use Rattle.arimaa_board.specs.declared.ending.Ending.{Ending}
-use Rattle.arimaa_model.specs.Decided.{decided}
+use Rattle.arimaa_model.specs.DecidedPositions.{decided}
 use Rattle.arimaa_model.specs.Results.{next}
 use Rattle.arimaa_model.specs.Ranks.{IsRank, above}
 use Rattle.arimaa_model.specs.Wins.{wins}
@@ -22,10 +22,10 @@ use Rattle.arimaa_forced.specs.Entries.{AcceptsEntries, has_right_marks, entry_w
 use Rattle.arimaa_forced.proofs.Plays.{accepted-plays, accepted-wins}
 use Rattle.arimaa_forced.proofs.OwnStrategies.{made-accepted, made-ranked}
 use Rattle.arimaa_forced.proofs.NotedEntries.{planned-written, written-marked}
-use Rattle.arimaa_strategy.specs.declared.checked.Why.{Why}
-use Rattle.arimaa_strategy.specs.declared.checked.Why.TheVariants as why
-use Rattle.arimaa_strategy.specs.declared.checked.Checked.{Checked}
-use Rattle.arimaa_strategy.specs.declared.checked.Checked.TheVariants as checked
+use Rattle.arimaa_strategy.specs.declared.check_answer.Why.{Why}
+use Rattle.arimaa_strategy.specs.declared.check_answer.Why.TheVariants as why
+use Rattle.arimaa_strategy.specs.declared.check_answer.Checked.{Checked}
+use Rattle.arimaa_strategy.specs.declared.check_answer.Checked.TheVariants as checked
 use Rattle.arimaa_strategy.specs.declared.look.Look.{Look}
 use Rattle.arimaa_strategy.specs.declared.look.Look.TheVariants as looks
 use Rattle.arimaa_strategy.specs.declared.look.Finding.{Finding}

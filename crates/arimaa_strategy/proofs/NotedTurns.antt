@@ -6,7 +6,7 @@ use Rattle.arimaa_board.specs.declared.board.Board.{Board}
 use Rattle.arimaa_board.specs.declared.position.Step.{Step}
 use Rattle.arimaa_board.specs.declared.position.Position.{Position}
 use Rattle.arimaa_board.specs.declared.turn.NotedStep.{NotedStep}
-use Rattle.arimaa_board.specs.Noted.{noted_turn, noted_marks}
+use Rattle.arimaa_board.specs.NotedTurns.{noted_turn, noted_marks}
 use Rattle.arimaa_model.specs.Results.{result_of}
 use Rattle.arimaa_model.specs.Marks.{marks_of, removed_by}
 use Rattle.arimaa_model.specs.Moves.{after}

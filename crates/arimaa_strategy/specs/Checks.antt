@@ -3,7 +3,7 @@ use Rattle.std.specs.Prelude.{◌≡◌, ◌≢◌, ℕ, ◌+◌, ◌<◌, ◌�
 use Rattle.std.specs.List.{Contains}
 use Rattle.arimaa_board.specs.declared.piece.Color.{Color}
 use Rattle.arimaa_board.specs.declared.position.Position.{Position}
-use Rattle.arimaa_model.specs.Decided.{decided}
+use Rattle.arimaa_model.specs.DecidedPositions.{decided}
 use Rattle.arimaa_model.specs.Results.{next}
 use Rattle.arimaa_model.specs.Wins.{wins}
 use Rattle.arimaa_model.specs.Game.{barred_by, present}
@@ -13,9 +13,9 @@ use Rattle.arimaa_forced.specs.declared.entry.Entry.{Entry}
 use Rattle.arimaa_forced.specs.Acceptance.{root_rank}
 use Rattle.arimaa_forced.specs.Entries.{AcceptsEntries, entry_with_marks}
 use Rattle.arimaa_forced.specs.Play.{WinsEveryPlay}
-use Rattle.arimaa_strategy.specs.declared.checked.Why.{Why}
-use Rattle.arimaa_strategy.specs.declared.checked.Checked.{Checked}
-use Rattle.arimaa_strategy.specs.declared.checked.Checked.TheVariants as checked
+use Rattle.arimaa_strategy.specs.declared.check_answer.Why.{Why}
+use Rattle.arimaa_strategy.specs.declared.check_answer.Checked.{Checked}
+use Rattle.arimaa_strategy.specs.declared.check_answer.Checked.TheVariants as checked
 use Rattle.arimaa_strategy.specs.Entries.{plan_of}
 use Rattle.arimaa_strategy.specs.Faults.{led_to, fault_of, root_fault, AreFaultless}
 

@@ -5,15 +5,15 @@ use Rattle.arimaa_board.specs.declared.piece.Color.{Color}
 use Rattle.arimaa_board.specs.Board.{same_color}
 use Rattle.arimaa_board.specs.declared.position.Position.{Position}
 use Rattle.arimaa_board.specs.declared.ending.Ending.{Ending}
-use Rattle.arimaa_model.specs.Decided.{decided}
+use Rattle.arimaa_model.specs.DecidedPositions.{decided}
 use Rattle.arimaa_model.specs.Results.{stands_in, next}
 use Rattle.arimaa_model.specs.Ranks.{above}
 use Rattle.arimaa_model.specs.Strategies.{Planned, result_at, find_entry}
 use Rattle.arimaa_forced.specs.declared.entry.Entry.{Entry}
 use Rattle.arimaa_forced.specs.Acceptance.{s_rank, is_covered, is_ready, root_rank}
 use Rattle.arimaa_forced.specs.Entries.{planned_of, has_right_marks}
-use Rattle.arimaa_strategy.specs.declared.checked.Why.{Why}
-use Rattle.arimaa_strategy.specs.declared.checked.Why.TheVariants as why
+use Rattle.arimaa_strategy.specs.declared.check_answer.Why.{Why}
+use Rattle.arimaa_strategy.specs.declared.check_answer.Why.TheVariants as why
 use Rattle.arimaa_strategy.specs.Entries.{plan_of}
 
 -- a position, if it is a next position of p

@@ -5,13 +5,13 @@ use Rattle.arimaa_board.specs.declared.piece.Color.{Color}
 use Rattle.arimaa_board.specs.Board.{same_color}
 use Rattle.arimaa_board.specs.declared.position.Position.{Position}
 use Rattle.arimaa_board.specs.declared.ending.Ending.{Ending}
-use Rattle.arimaa_model.specs.Decided.{decided}
+use Rattle.arimaa_model.specs.DecidedPositions.{decided}
 use Rattle.arimaa_model.specs.Results.{next}
 use Rattle.arimaa_model.specs.Strategies.{Planned, find_entry}
 use Rattle.arimaa_forced.specs.declared.entry.Entry.{Entry}
-use Rattle.arimaa_strategy.specs.declared.checked.Why.TheVariants as why
-use Rattle.arimaa_strategy.specs.declared.checked.Checked.{Checked}
-use Rattle.arimaa_strategy.specs.declared.checked.Checked.TheVariants as checked
+use Rattle.arimaa_strategy.specs.declared.check_answer.Why.TheVariants as why
+use Rattle.arimaa_strategy.specs.declared.check_answer.Checked.{Checked}
+use Rattle.arimaa_strategy.specs.declared.check_answer.Checked.TheVariants as checked
 use Rattle.arimaa_strategy.specs.declared.look.Look.{Look}
 use Rattle.arimaa_strategy.specs.declared.look.Look.TheVariants as looks
 use Rattle.arimaa_strategy.specs.declared.look.Finding.{Finding}

@@ -12,7 +12,7 @@ ghost use Rattle.arimaa_strategy.specs.Checks.{IfAccepted, IsChecked, IsWonBy};
 ghost use Rattle.arimaa_strategy.specs.Findings.{covered_rank, replies_rank, IfRank, look_by, look_at, finding_of, finding_at};
 ghost use Rattle.arimaa_strategy.specs.Findings.{first_answer, root_look, root_answer, checked_of};
 
-use crate::checked::{Checked, Why};
+use crate::check_answer::{Checked, Why};
 use crate::look::{Finding, Look};
 use crate::strategy::Strategy;
 use arimaa_board::{Color, Position, Square};

@@ -1,7 +1,7 @@
 //! Strategies for wins by force: their texts, and a checker that trusts no prover.
 #![tactic(auto)]
 
-mod checked;
+mod check_answer;
 mod checker;
 mod entry_line;
 mod fault;
@@ -14,7 +14,7 @@ mod tests;
 mod written_form;
 
 pub use arimaa_forced::Entry;
-pub use checked::{Checked, Why};
+pub use check_answer::{Checked, Why};
 pub use checker::{check, led_to};
 pub use entry_line::read_board_and_turn;
 pub use fault::StrategyFault;

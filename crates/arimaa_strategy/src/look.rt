@@ -1,5 +1,5 @@
 //! What the checker finds at an entry or at the root.
-use crate::checked::Why;
+use crate::check_answer::Why;
 use arimaa_board::Position;
 
 // What a look at a position with the defender to move finds.

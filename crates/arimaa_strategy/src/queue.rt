@@ -1,7 +1,7 @@
 //! The positions that are met, each once, in the order of first meeting.
 ghost use Rattle.std.specs.Prelude.{◌≡◌, [], ◌∷◌, OnOk, is_none};
 ghost use Rattle.std.specs.List.{filter};
-ghost use Rattle.arimaa_model.specs.Decided.{decided};
+ghost use Rattle.arimaa_model.specs.DecidedPositions.{decided};
 ghost use Rattle.arimaa_model.specs.Results.{first_occurrences};
 ghost use Rattle.arimaa_region.specs.Segments.{live_of};
 

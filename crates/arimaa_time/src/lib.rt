@@ -8,14 +8,14 @@
 mod control;
 mod fault;
 mod fields;
-mod read;
+mod reader;
 mod spans;
 #[cfg(test)]
 mod tests;
 mod units;
-mod write;
+mod writer;
 
 pub use control::{Control, GameLimit};
 pub use fault::ControlFault;
-pub use read::read_control;
-pub use write::control_text;
+pub use reader::read_control;
+pub use writer::control_text;

@@ -7,10 +7,10 @@ use Rattle.arimaa_judge.specs.Texts.{line, side_word}
 use Rattle.arimaa_board.specs.declared.ending.Word.{Word}
 use Rattle.arimaa_model.specs.Game.{barred_by, present}
 use Rattle.arimaa_record.specs.Lines.{lines_of}
-use Rattle.arimaa_strategy.specs.declared.checked.Checked.{Checked}
-use Rattle.arimaa_strategy.specs.declared.checked.Checked.TheVariants as checks
-use Rattle.arimaa_strategy.specs.declared.checked.Why.{Why}
-use Rattle.arimaa_strategy.specs.declared.checked.Why.TheVariants as why
+use Rattle.arimaa_strategy.specs.declared.check_answer.Checked.{Checked}
+use Rattle.arimaa_strategy.specs.declared.check_answer.Checked.TheVariants as checks
+use Rattle.arimaa_strategy.specs.declared.check_answer.Why.{Why}
+use Rattle.arimaa_strategy.specs.declared.check_answer.Why.TheVariants as why
 use Rattle.arimaa_strategy.specs.Checks.{HasRoom, IfAccepted, IsChecked, IsWonBy}
 use Rattle.arimaa_strategy.specs.Text.{IsFirstBadLine, IsStrategyText}
 use Rattle.arimaa_cli.specs.declared.answer.Answer.{Answer}

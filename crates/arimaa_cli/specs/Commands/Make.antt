@@ -6,7 +6,7 @@ use Rattle.arimaa_board.specs.declared.position.Step.{Step}
 use Rattle.arimaa_forced.specs.Entries.{steps_with_marks}
 use Rattle.arimaa_judge.specs.declared.judgement.Judged.TheVariants as judgement
 use Rattle.arimaa_judge.specs.declared.rule.Rule.{Rule}
-use Rattle.arimaa_judge.specs.Judged.{IsJudged}
+use Rattle.arimaa_judge.specs.Judgement.{IsJudged}
 use Rattle.arimaa_judge.specs.Texts.{line, state_line, text_of_bad}
 use Rattle.arimaa_board.specs.declared.ending.Ending.{Ending}
 use Rattle.arimaa_model.specs.Game.{barred_by, ending, present}

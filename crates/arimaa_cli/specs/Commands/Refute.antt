@@ -5,8 +5,8 @@ use Rattle.arimaa_forced.specs.Search.{crowd, size}
 use Rattle.arimaa_judge.specs.Texts.{line}
 use Rattle.arimaa_model.specs.Game.{barred_by, present}
 use Rattle.arimaa_refute.specs.declared.escape.Escape.{Escape}
-use Rattle.arimaa_refute.specs.declared.refuted.Refuted.{Refuted}
-use Rattle.arimaa_refute.specs.declared.refuted.Refuted.TheVariants as refuted
+use Rattle.arimaa_refute.specs.declared.refute_answer.Refuted.{Refuted}
+use Rattle.arimaa_refute.specs.declared.refute_answer.Refuted.TheVariants as refuted
 use Rattle.arimaa_refute.specs.Refutations.{IsDone, IsRefuted}
 use Rattle.arimaa_refute.specs.Text.{text_of_escapes}
 use Rattle.arimaa_cli.specs.declared.answer.Answer.{Answer}

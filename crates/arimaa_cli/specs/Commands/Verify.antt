@@ -5,10 +5,10 @@ use Rattle.arimaa_judge.specs.Texts.{line}
 use Rattle.arimaa_model.specs.Game.{barred_by}
 use Rattle.arimaa_record.specs.Lines.{lines_of}
 use Rattle.arimaa_refute.specs.declared.escape.Escape.{Escape}
-use Rattle.arimaa_refute.specs.declared.verified.Flaw.{Flaw}
-use Rattle.arimaa_refute.specs.declared.verified.Flaw.TheVariants as flaw
-use Rattle.arimaa_refute.specs.declared.verified.Verified.{Verified}
-use Rattle.arimaa_refute.specs.declared.verified.Verified.TheVariants as verdict
+use Rattle.arimaa_refute.specs.declared.verify_answer.Flaw.{Flaw}
+use Rattle.arimaa_refute.specs.declared.verify_answer.Flaw.TheVariants as flaw
+use Rattle.arimaa_refute.specs.declared.verify_answer.Verified.{Verified}
+use Rattle.arimaa_refute.specs.declared.verify_answer.Verified.TheVariants as verdict
 use Rattle.arimaa_refute.specs.Checks.{HasRoom, IsVerified}
 use Rattle.arimaa_refute.specs.Text.{IsEscapesText, IsFirstBadLine}
 use Rattle.arimaa_cli.specs.declared.answer.Answer.{Answer}

@@ -2,9 +2,9 @@ use Rattle.std.proofs.Common.{◌+◌, ◌%◌, ◌<◌, List, [], ◌∷◌, �
 use Rattle.std.specs.List.{AllZip}
 use Rattle.std.proofs.lemmas.List.{take_more}
 use Rattle.arimaa_archive.specs.declared.parts.Part.{Part}
-use Rattle.arimaa_archive.specs.declared.told.Told.{Told}
+use Rattle.arimaa_archive.specs.declared.record_judgement.Told.{Told}
 use Rattle.arimaa_archive.specs.Shares.{IsShare}
-use Rattle.arimaa_archive.specs.Told.{IsToldOfPart}
+use Rattle.arimaa_archive.specs.RecordJudgements.{IsToldOfPart}
 use Rattle.arimaa_archive.proofs.ShareLaws.{ok_value, told_in_share}
 use Rattle.arimaa_archive.proofs.shares.judge_many.Goals as goal
 use Rattle.arimaa_record.proofs.PlainLaws.{all_zip_push}

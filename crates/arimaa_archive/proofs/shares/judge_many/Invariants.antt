@@ -1,6 +1,6 @@
 use Rattle.std.proofs.Common.{take}
 use Rattle.std.specs.List.{AllZip}
-use Rattle.arimaa_archive.specs.Told.{IsToldOfPart}
+use Rattle.arimaa_archive.specs.RecordJudgements.{IsToldOfPart}
 use Rattle.arimaa_archive.proofs.shares.judge_many.Given as goal
 
 -- the first records are told

@@ -1,8 +1,8 @@
 use Rattle.std.proofs.Common.{◌≡◌, ◌<◌, ◌+◌, ◌*◌, ◌-◌, ℕ, length}
 use Rattle.std.specs.Prelude.{slice_index_or}
 use Rattle.arimaa_archive.specs.declared.parts.Part.{Part}
-use Rattle.arimaa_archive.specs.declared.told.Told.{Told}
-use Rattle.arimaa_archive.specs.Told.{IsToldOfPart}
+use Rattle.arimaa_archive.specs.declared.record_judgement.Told.{Told}
+use Rattle.arimaa_archive.specs.RecordJudgements.{IsToldOfPart}
 use Rattle.arimaa_archive.proofs.shares.judge_share.Given as goal
 
 -- what is told so far is told of the worker's first records

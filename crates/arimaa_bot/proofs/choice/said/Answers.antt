@@ -2,7 +2,7 @@ use Rattle.std.proofs.Common.{◌≡◌, List, Err, ap, arith, length, subst}
 use Rattle.std.specs.Prelude.{IfOk}
 use Rattle.std.proofs.lemmas.Result.{IfOk-at_ok}
 use Rattle.arimaa_board.specs.declared.turn.NotedStep.{NotedStep}
-use Rattle.arimaa_board.specs.Noted.{noted_marks, noted_turn}
+use Rattle.arimaa_board.specs.NotedTurns.{noted_marks, noted_turn}
 use Rattle.arimaa_model.specs.Faults.{applied}
 use Rattle.arimaa_model.specs.Marks.{marks_of}
 use Rattle.arimaa_model.specs.Results.{result_of}

@@ -1,5 +1,5 @@
 use Rattle.std.proofs.Common.{◌∙◌, subst}
-use Rattle.arimaa_judge.specs.Judged.{IsJudged}
+use Rattle.arimaa_judge.specs.Judgement.{IsJudged}
 use Rattle.arimaa_cli.proofs.record.told.Goals as goal
 
 pub returns-in_ok-bad_text-in-Bad : goal.returns-in_ok-bad_text-in-Bad

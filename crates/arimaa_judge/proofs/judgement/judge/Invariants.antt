@@ -1,7 +1,7 @@
 use Rattle.std.proofs.Common.{◌≤◌, ◌+◌, length}
 use Rattle.arimaa_record.specs.Lines.{lines_of}
 use Rattle.arimaa_judge.specs.declared.judgement.Judged.{Judged}
-use Rattle.arimaa_judge.specs.Judged.{IsJudged}
+use Rattle.arimaa_judge.specs.Judgement.{IsJudged}
 use Rattle.arimaa_judge.specs.Progress.{LeadsTo}
 use Rattle.arimaa_judge.proofs.judgement.judge.Given as goal
 

@@ -2,7 +2,7 @@ use Rattle.std.proofs.Common.{◌≡◌, ◌<◌, ℕ, List, length, rules}
 use Rattle.std.specs.Prelude.{Vec, vec_len}
 use Rattle.std.specs.declared.alloc.Global.{Global}
 use Rattle.std.proofs.lemmas.Result.{IfOk-weaker}
-use Rattle.arimaa_meet.specs.declared.told.Told.{Told}
+use Rattle.arimaa_meet.specs.declared.match_report.Told.{Told}
 use Rattle.arimaa_meet.specs.Matches.{MeetMatch}
 use Rattle.arimaa_meet.specs.Seats.{seat_of}
 use Rattle.arimaa_meet.specs.Shares.{AreShares, AreTold, HavePlayed}

@@ -1,6 +1,6 @@
 use Rattle.std.proofs.Common.{◌∙◌, List, length, sym, ap, subst, arith}
 use Rattle.std.specs.List.{AllZip}
-use Rattle.arimaa_meet.specs.declared.told.Told.{Told}
+use Rattle.arimaa_meet.specs.declared.match_report.Told.{Told}
 use Rattle.arimaa_meet.specs.Shares.{IsTold}
 use Rattle.arimaa_meet.proofs.ReportSteps.{all_judged, told_as_many}
 use Rattle.arimaa_meet.proofs.calls.play_meet.Goals as goal

@@ -2,7 +2,7 @@ use Rattle.std.proofs.Common.{◌≡◌, ◌%◌, ◌<◌, ◌≤◌, ℕ, List,
 use Rattle.std.specs.Prelude.{Vec, vec_len}
 use Rattle.std.proofs.lemmas.List.{length-set}
 use Rattle.std.specs.declared.alloc.Global.{Global}
-use Rattle.arimaa_meet.specs.declared.told.Told.{Told}
+use Rattle.arimaa_meet.specs.declared.match_report.Told.{Told}
 use Rattle.arimaa_meet.specs.declared.pairs.Pair.{Pair}
 use Rattle.arimaa_meet.specs.Shares.{AreTold}
 use Rattle.arimaa_meet.proofs.Gathering.{Gathered, all_gathered, first_taken, gathered_more, none_gathered, some_left, some_of}

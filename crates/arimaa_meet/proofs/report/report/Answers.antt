@@ -1,7 +1,7 @@
 use Rattle.std.proofs.Common.{◌≡◌, ◌<◌, ◌≤◌, ◌++◌, ℕ, List, length, map, get_or, sym, ◌∙◌, ap, subst, arith, rules}
 use Rattle.std.proofs.lemmas.List.{take_all}
-use Rattle.arimaa_meet.specs.declared.counted.Counted.{Counted}
-use Rattle.arimaa_meet.specs.declared.told.Told.{Told}
+use Rattle.arimaa_meet.specs.declared.match_count.Counted.{Counted}
+use Rattle.arimaa_meet.specs.declared.match_report.Told.{Told}
 use Rattle.arimaa_meet.specs.Matches.{MeetMatch}
 use Rattle.arimaa_meet.specs.Report.{text_of_matches, text_of_table}
 use Rattle.arimaa_meet.specs.Scores.{counted}

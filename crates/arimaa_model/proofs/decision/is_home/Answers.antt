@@ -3,7 +3,7 @@ use Rattle.arimaa_board.proofs.MaskLaws.{and_mask}
 use Rattle.arimaa_board.specs.declared.piece.Kind.TheVariants.{Rabbit}
 use Rattle.arimaa_board.specs.Board.{at, holds}
 use Rattle.arimaa_board.specs.Piece.{piece_of}
-use Rattle.arimaa_model.specs.Decided.{is_goal}
+use Rattle.arimaa_model.specs.DecidedPositions.{is_goal}
 use Rattle.arimaa_model.proofs.Home.{home_is}
 use Rattle.arimaa_model.proofs.decision.is_home.Goals as goal
 

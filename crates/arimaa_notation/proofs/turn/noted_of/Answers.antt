@@ -1,7 +1,7 @@
 use Rattle.std.proofs.Common.{◌≡◌, List, [], ◌∷◌, length, take, refl, sym, ◌∙◌, ap, take_all, arith}
 use Rattle.std.proofs.lemmas.List.{length-map}
 use Rattle.arimaa_board.specs.declared.turn.NotedStep.{NotedStep}
-use Rattle.arimaa_board.specs.Noted.{noted_turn, noted_marks}
+use Rattle.arimaa_board.specs.NotedTurns.{noted_turn, noted_marks}
 use Rattle.arimaa_notation.proofs.turn.noted_of.Goals as goal
 
 -- steps and marks together are the noted steps

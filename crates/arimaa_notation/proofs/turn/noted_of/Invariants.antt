@@ -1,5 +1,5 @@
 use Rattle.std.proofs.Common.{◌≡◌, take, length}
-use Rattle.arimaa_board.specs.Noted.{noted_turn, noted_marks}
+use Rattle.arimaa_board.specs.NotedTurns.{noted_turn, noted_marks}
 use Rattle.arimaa_notation.proofs.turn.noted_of.Given as goal
 
 abbrev pub invariant-loop-noted : goal.invariant-loop-noted

@@ -2,7 +2,7 @@ use Rattle.std.proofs.Common.{◌≡◌, ℕ, ◌-◌, Some, Err, is_some, sym, 
 use Rattle.std.proofs.lemmas.Result.{IfOk-at_ok}
 use Rattle.std.proofs.lemmas.Option.{MatchOption-at_some}
 use Rattle.arimaa_board.specs.declared.position.Position.{Position}
-use Rattle.arimaa_board.specs.Noted.{noted_turn, noted_marks}
+use Rattle.arimaa_board.specs.NotedTurns.{noted_turn, noted_marks}
 use Rattle.arimaa_model.specs.Marks.{marks_of}
 use Rattle.arimaa_model.specs.Results.{result_of}
 use Rattle.arimaa_model.specs.Faults.{applied}

@@ -1,5 +1,5 @@
 use Rattle.std.proofs.Common.{◌≡◌, ◌<◌, length, false, is_some, sym, ◌∙◌, ap, arith}
-use Rattle.arimaa_model.specs.Decided.{decided}
+use Rattle.arimaa_model.specs.DecidedPositions.{decided}
 use Rattle.arimaa_model.specs.Results.{next}
 use Rattle.arimaa_model.proofs.Lists.{is_some-None}
 use Rattle.arimaa_region.specs.Segments.{live_of}

@@ -1,6 +1,6 @@
 use Rattle.std.proofs.Common.{◌≡◌, [], sym, ap, ◌∙◌, arith, Option, None, Some, List, ℕ}
 use Rattle.arimaa_board.specs.declared.position.Step.{Step}
-use Rattle.arimaa_results.specs.Passing.{first_passing}
+use Rattle.arimaa_results.specs.Conditions.{first_passing}
 use Rattle.arimaa_results.specs.Walk.{first_after, found_from}
 use Rattle.arimaa_results.proofs.Given.{number_more, number_found, numbers_end}
 use Rattle.arimaa_results.proofs.Reached.{first_passing-is, found-first}

@@ -1,11 +1,11 @@
 use Rattle.std.proofs.Common.{ap, sym, subst, ◌∙◌}
 use Rattle.std.specs.Prelude.{is_ok}
 use Rattle.std.specs.List.{flat_map}
-use Rattle.arimaa_results.specs.Adding.{IsFilled}
+use Rattle.arimaa_results.specs.Additions.{IsFilled}
 use Rattle.arimaa_results.specs.Ahead.{brings}
-use Rattle.arimaa_results.specs.Layering.{keeps, IsKept}
+use Rattle.arimaa_results.specs.Layers.{keeps, IsKept}
 use Rattle.arimaa_results.specs.NextStates.{next_gives}
-use Rattle.arimaa_results.specs.Stopped.{is_room, is_work}
+use Rattle.arimaa_results.specs.Stops.{is_room, is_work}
 use Rattle.arimaa_results.proofs.Bringing.{brings-suc}
 use Rattle.arimaa_results.proofs.StatePairs.{pairs_give}
 use Rattle.arimaa_results.proofs.layer_lists.extend.Goals as goal

@@ -4,9 +4,9 @@ use Rattle.std.proofs.lemmas.Result.{err_from_is_err_and}
 use Rattle.arimaa_board.specs.declared.position.Position.{Position}
 use Rattle.arimaa_region.specs.Same.{same_position}
 use Rattle.arimaa_region.specs.Segments.{Stacked}
-use Rattle.arimaa_results.specs.Adding.{IsFilled}
-use Rattle.arimaa_results.specs.Layering.{brought_from}
-use Rattle.arimaa_results.specs.Stopped.{is_room, is_work, is_won}
+use Rattle.arimaa_results.specs.Additions.{IsFilled}
+use Rattle.arimaa_results.specs.Layers.{brought_from}
+use Rattle.arimaa_results.specs.Stops.{is_room, is_work, is_won}
 use Rattle.arimaa_results.proofs.Adding.{leads_start, leads_ok, leads_err, leads_off, under_live}
 use Rattle.arimaa_results.proofs.Layers.{live-more}
 use Rattle.arimaa_results.proofs.Stage.{on_ok}

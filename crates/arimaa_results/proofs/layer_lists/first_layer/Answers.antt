@@ -4,10 +4,10 @@ use Rattle.std.specs.List.{flat_map}
 use Rattle.arimaa_board.specs.declared.position.Position.{Position}
 use Rattle.arimaa_region.specs.Same.{same_words, firsts}
 use Rattle.arimaa_region.specs.Segments.{Held as Region}
-use Rattle.arimaa_results.specs.Adding.{IsFilled}
+use Rattle.arimaa_results.specs.Additions.{IsFilled}
 use Rattle.arimaa_results.specs.Ahead.{next_states, brings}
-use Rattle.arimaa_results.specs.Layering.{keeps, layer, brought_from}
-use Rattle.arimaa_results.specs.Stopped.{is_room}
+use Rattle.arimaa_results.specs.Layers.{keeps, layer, brought_from}
+use Rattle.arimaa_results.specs.Stops.{is_room}
 use Rattle.arimaa_results.proofs.Layers.{layers_to-zero, layer-one, starts-bring}
 use Rattle.arimaa_results.proofs.Stage.{on_ok, with_layer, stage-room, stage-kept, stage-work}
 use Rattle.arimaa_results.proofs.layer_lists.first_layer.Goals as goal

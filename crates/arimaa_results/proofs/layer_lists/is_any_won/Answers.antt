@@ -1,5 +1,5 @@
 use Rattle.std.proofs.Common.{arith, sym, ◌∙◌}
-use Rattle.arimaa_results.specs.Listed.{is_won_by}
+use Rattle.arimaa_results.specs.ListsToWin.{is_won_by}
 use Rattle.arimaa_results.proofs.Adding.{any_on_top}
 use Rattle.arimaa_results.proofs.layer_lists.is_any_won.Goals as goal
 

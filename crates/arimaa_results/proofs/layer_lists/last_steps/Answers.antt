@@ -6,9 +6,9 @@ use Rattle.arimaa_region.specs.Segments.{Stacked, top, below_top, live_of}
 use Rattle.arimaa_step.specs.declared.state.TurnState.{TurnState}
 use Rattle.arimaa_step.specs.StateWords.{state_in_planes}
 use Rattle.arimaa_results.specs.declared.turn_walk.NoRoom.{NoRoom}
-use Rattle.arimaa_results.specs.Adding.{IsFilled}
+use Rattle.arimaa_results.specs.Additions.{IsFilled}
 use Rattle.arimaa_results.specs.LastSteps.{brings_in_order, brings_first, brings_last, left_of_kept}
-use Rattle.arimaa_results.specs.Layering.{layer, layers_to, brought_from}
+use Rattle.arimaa_results.specs.Layers.{layer, layers_to, brought_from}
 use Rattle.arimaa_results.specs.NextStates.{next_pairs}
 use Rattle.arimaa_results.proofs.Adding.{leads_start, leads_ok, leads_stop, leads_end, leads_off, under_live, added_err, added-like}
 use Rattle.arimaa_results.proofs.OrderedLayers.{fourth_in_order}

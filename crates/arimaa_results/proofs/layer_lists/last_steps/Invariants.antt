@@ -2,7 +2,7 @@ use Rattle.std.proofs.Common.{◌≡◌, ◌-◌, drop}
 use Rattle.arimaa_region.specs.Same.{same_position}
 use Rattle.arimaa_region.specs.Segments.{live_of}
 use Rattle.arimaa_results.specs.LastSteps.{brings_in_order, brings_last}
-use Rattle.arimaa_results.specs.Layering.{layer}
+use Rattle.arimaa_results.specs.Layers.{layer}
 use Rattle.arimaa_results.proofs.Adding.{Leads}
 use Rattle.arimaa_results.proofs.layer_lists.last_steps.Given as goal
 

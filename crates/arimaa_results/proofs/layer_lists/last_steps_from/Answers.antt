@@ -3,7 +3,7 @@ use Rattle.std.specs.Prelude.{is_ok, is_err, is_some}
 use Rattle.std.proofs.lemmas.Result.{err_from_is_err_and}
 use Rattle.arimaa_region.specs.Same.{same_position}
 use Rattle.arimaa_region.specs.Segments.{Stacked, live_of}
-use Rattle.arimaa_results.specs.Adding.{IsFilled}
+use Rattle.arimaa_results.specs.Additions.{IsFilled}
 use Rattle.arimaa_results.specs.LastSteps.{is_next, brings_in_order, brings_first, left_of_kept}
 use Rattle.arimaa_results.specs.NextStates.{next_pairs, pairs_left}
 use Rattle.arimaa_step.specs.Next.{next_state}

@@ -5,9 +5,9 @@ use Rattle.std.proofs.lemmas.Bool.{false≢true, false_from_ne_true}
 use Rattle.arimaa_board.specs.declared.position.Position.{Position}
 use Rattle.arimaa_model.specs.Results.{next}
 use Rattle.arimaa_region.specs.Segments.{Held, live_of}
-use Rattle.arimaa_results.specs.Adding.{IsFilled}
-use Rattle.arimaa_results.specs.Layering.{layers_to, brought_from}
-use Rattle.arimaa_results.specs.Stopped.{for_won, is_room, is_work, is_won}
+use Rattle.arimaa_results.specs.Additions.{IsFilled}
+use Rattle.arimaa_results.specs.Layers.{layers_to, brought_from}
+use Rattle.arimaa_results.specs.Stops.{for_won, is_room, is_work, is_won}
 use Rattle.arimaa_results.proofs.Distinct.{layers-distinct}
 use Rattle.arimaa_results.proofs.Layers.{layered-firsts}
 use Rattle.arimaa_results.proofs.Opened.{opened_whole, opened_many}

@@ -4,9 +4,9 @@ use Rattle.std.specs.List.{flat_map}
 use Rattle.arimaa_board.specs.declared.position.Position.{Position}
 use Rattle.arimaa_model.specs.Results.{next}
 use Rattle.arimaa_region.specs.Segments.{top}
-use Rattle.arimaa_results.specs.Adding.{IsFilled}
-use Rattle.arimaa_results.specs.Layering.{brought_from}
-use Rattle.arimaa_results.specs.Stopped.{is_room, is_won}
+use Rattle.arimaa_results.specs.Additions.{IsFilled}
+use Rattle.arimaa_results.specs.Layers.{brought_from}
+use Rattle.arimaa_results.specs.Stops.{is_room, is_won}
 use Rattle.arimaa_results.proofs.Layers.{layered-firsts}
 use Rattle.arimaa_results.proofs.Opened.{opened_many, opened_below, opened_count, opened_room, opened_begun, opened_top, listed_whole, listed_part}
 use Rattle.arimaa_results.proofs.layer_lists.layered_to_win.Goals as goal

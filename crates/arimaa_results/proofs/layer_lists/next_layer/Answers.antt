@@ -7,10 +7,10 @@ use Rattle.arimaa_region.specs.Same.{same_words}
 use Rattle.arimaa_region.specs.Same.{same_position}
 use Rattle.arimaa_region.specs.Segments.{live_of}
 use Rattle.arimaa_step.specs.StateWords.{state_in_planes}
-use Rattle.arimaa_results.specs.Adding.{IsFilled}
+use Rattle.arimaa_results.specs.Additions.{IsFilled}
 use Rattle.arimaa_results.specs.Ahead.{next_states, brings}
-use Rattle.arimaa_results.specs.Layering.{keeps, planes_after, layer, brings_next, IsKept}
-use Rattle.arimaa_results.specs.Stopped.{is_room, is_work, is_won}
+use Rattle.arimaa_results.specs.Layers.{keeps, planes_after, layer, brings_next, IsKept}
+use Rattle.arimaa_results.specs.Stops.{is_room, is_work, is_won}
 use Rattle.arimaa_results.proofs.Adding.{leads_ok, leads_err, leads_end, leads_off, under_live, items_split, items_end}
 use Rattle.arimaa_results.proofs.Layers.{reading, IsRead, live-more, layer-suc, planes_after-is, layers-count}
 use Rattle.arimaa_results.proofs.Stage.{with_layer, stage-kept, stage-work}

@@ -2,7 +2,7 @@ use Rattle.std.proofs.Common.{[], ◌∷◌, ◌-◌, suc, drop}
 use Rattle.std.specs.List.{flat_map}
 use Rattle.arimaa_region.specs.Same.{same_words}
 use Rattle.arimaa_region.specs.Same.{same_position}
-use Rattle.arimaa_results.specs.Layering.{planes_after, layer, layers_to, brings_next}
+use Rattle.arimaa_results.specs.Layers.{planes_after, layer, layers_to, brings_next}
 use Rattle.arimaa_results.proofs.Adding.{Leads}
 use Rattle.arimaa_results.proofs.layer_lists.next_layer.Given as goal
 

@@ -8,12 +8,12 @@ use Rattle.arimaa_region.specs.Same.{same_position, same_words}
 use Rattle.arimaa_region.specs.Segments.{top, below_top, live_of}
 use Rattle.arimaa_step.specs.declared.state.TurnState.{TurnState}
 use Rattle.arimaa_step.specs.Next.{next_state}
-use Rattle.arimaa_results.specs.Adding.{IsFilled}
+use Rattle.arimaa_results.specs.Additions.{IsFilled}
 use Rattle.arimaa_results.specs.Ahead.{brings}
-use Rattle.arimaa_results.specs.Layering.{keeps, IsKept}
+use Rattle.arimaa_results.specs.Layers.{keeps, IsKept}
 use Rattle.arimaa_results.specs.LastSteps.{is_next, next_in_order, brings_first, left_of_kept}
 use Rattle.arimaa_results.specs.NextStates.{next_pairs, pairs_left}
-use Rattle.arimaa_results.specs.Stopped.{for_won, is_room, is_work, is_won}
+use Rattle.arimaa_results.specs.Stops.{for_won, is_room, is_work, is_won}
 use Rattle.arimaa_results.proofs.Adding.{Leads, leads_start, leads_ok, leads_err, leads_end}
 use Rattle.arimaa_results.proofs.Kept.{below_live, next_brings, next_left, other_brings, other_left, none_brings, none_left}
 use Rattle.arimaa_results.proofs.Stage.{raised-room, raised-work}

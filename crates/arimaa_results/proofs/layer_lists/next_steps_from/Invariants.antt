@@ -2,7 +2,7 @@ use Rattle.std.proofs.Common.{◌≡◌, length, drop}
 use Rattle.arimaa_region.specs.Same.{same_position, same_words}
 use Rattle.arimaa_region.specs.Segments.{below_top, live_of}
 use Rattle.arimaa_results.specs.Ahead.{brings}
-use Rattle.arimaa_results.specs.Layering.{keeps}
+use Rattle.arimaa_results.specs.Layers.{keeps}
 use Rattle.arimaa_results.specs.LastSteps.{next_in_order, brings_first, left_of_kept}
 use Rattle.arimaa_results.specs.NextStates.{next_pairs, pairs_left, AreAllAccepted}
 use Rattle.arimaa_results.proofs.Adding.{Leads}

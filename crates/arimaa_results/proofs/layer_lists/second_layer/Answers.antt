@@ -7,12 +7,12 @@ use Rattle.arimaa_region.specs.Same.{same_position}
 use Rattle.arimaa_region.specs.Segments.{Held as Region, top, live_of, below_top}
 use Rattle.arimaa_step.specs.declared.state.TurnState.{TurnState}
 use Rattle.arimaa_step.specs.State.{state_of}
-use Rattle.arimaa_results.specs.Adding.{IsFilled}
+use Rattle.arimaa_results.specs.Additions.{IsFilled}
 use Rattle.arimaa_results.specs.Ahead.{brings}
-use Rattle.arimaa_results.specs.Layering.{keeps, layer, layers_to, brought_from, IsKept}
+use Rattle.arimaa_results.specs.Layers.{keeps, layer, layers_to, brought_from, IsKept}
 use Rattle.arimaa_results.specs.LastSteps.{next_in_order, brings_first}
 use Rattle.arimaa_results.specs.NextStates.{next_pairs}
-use Rattle.arimaa_results.specs.Stopped.{for_work, is_room, is_work}
+use Rattle.arimaa_results.specs.Stops.{for_work, is_room, is_work}
 use Rattle.arimaa_results.proofs.Adding.{added-like, added-weaker}
 use Rattle.arimaa_results.proofs.Kept.{start_kept}
 use Rattle.arimaa_results.proofs.Layers.{layers_to-zero, layers-count}

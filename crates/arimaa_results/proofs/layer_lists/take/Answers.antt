@@ -2,10 +2,10 @@ use Rattle.std.proofs.Common.{sym, subst, false}
 use Rattle.std.specs.Prelude.{is_ok}
 use Rattle.arimaa_region.specs.Same.{same_words}
 use Rattle.arimaa_region.specs.Same.{same_position}
-use Rattle.arimaa_results.specs.Adding.{IsFilled}
+use Rattle.arimaa_results.specs.Additions.{IsFilled}
 use Rattle.arimaa_results.specs.Ahead.{brings_now}
-use Rattle.arimaa_results.specs.Layering.{keeps, IsKept}
-use Rattle.arimaa_results.specs.Stopped.{is_room, is_work}
+use Rattle.arimaa_results.specs.Layers.{keeps, IsKept}
+use Rattle.arimaa_results.specs.Stops.{is_room, is_work}
 use Rattle.arimaa_results.proofs.Adding.{added_ok, added_err, added-nothing, added-weaker}
 use Rattle.arimaa_results.proofs.Bringing.{brings-zero}
 use Rattle.arimaa_results.proofs.layer_lists.take.Goals as goal

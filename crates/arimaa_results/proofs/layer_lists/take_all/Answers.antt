@@ -7,10 +7,10 @@ use Rattle.arimaa_region.specs.Same.{same_position, same_words}
 use Rattle.arimaa_board.specs.declared.position.Step.{Step}
 use Rattle.arimaa_step.specs.declared.state.TurnState.{TurnState}
 use Rattle.arimaa_results.specs.Ahead.{brings}
-use Rattle.arimaa_results.specs.Layering.{keeps, IsKept}
-use Rattle.arimaa_results.specs.Adding.{IsFilled}
+use Rattle.arimaa_results.specs.Layers.{keeps, IsKept}
+use Rattle.arimaa_results.specs.Additions.{IsFilled}
 use Rattle.arimaa_results.specs.NextStates.{next_gives}
-use Rattle.arimaa_results.specs.Stopped.{for_won, is_room, is_work, is_won}
+use Rattle.arimaa_results.specs.Stops.{for_won, is_room, is_work, is_won}
 use Rattle.arimaa_results.proofs.Adding.{leads_start, leads_ok, leads_err, leads_end}
 use Rattle.arimaa_results.proofs.layer_lists.take_all.Goals as goal
 

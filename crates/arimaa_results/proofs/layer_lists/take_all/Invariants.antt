@@ -2,7 +2,7 @@ use Rattle.std.proofs.Common.{length}
 use Rattle.std.specs.List.{flat_map}
 use Rattle.arimaa_region.specs.Same.{same_position, same_words}
 use Rattle.arimaa_results.specs.Ahead.{brings}
-use Rattle.arimaa_results.specs.Layering.{keeps}
+use Rattle.arimaa_results.specs.Layers.{keeps}
 use Rattle.arimaa_results.specs.NextStates.{next_gives}
 use Rattle.arimaa_results.proofs.Adding.{Leads}
 use Rattle.arimaa_results.proofs.layer_lists.take_all.Given as goal

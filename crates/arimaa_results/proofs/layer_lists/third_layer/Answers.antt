@@ -8,12 +8,12 @@ use Rattle.arimaa_region.specs.Segments.{Held as Region, top, below_top, live_of
 use Rattle.arimaa_step.specs.declared.state.TurnState.{TurnState}
 use Rattle.arimaa_step.specs.StateWords.{state_in_planes}
 use Rattle.arimaa_results.specs.declared.stop.Stop.{Stop}
-use Rattle.arimaa_results.specs.Adding.{IsFilled}
+use Rattle.arimaa_results.specs.Additions.{IsFilled}
 use Rattle.arimaa_results.specs.Ahead.{brings}
 use Rattle.arimaa_results.specs.LastSteps.{next_in_order, brings_first, brings_last, left_of_kept}
-use Rattle.arimaa_results.specs.Layering.{keeps, layer, layers_to, brought_from, IsKept}
+use Rattle.arimaa_results.specs.Layers.{keeps, layer, layers_to, brought_from, IsKept}
 use Rattle.arimaa_results.specs.NextStates.{next_pairs}
-use Rattle.arimaa_results.specs.Stopped.{for_work, for_won, is_room, is_work, is_won}
+use Rattle.arimaa_results.specs.Stops.{for_work, for_won, is_room, is_work, is_won}
 use Rattle.arimaa_results.proofs.Adding.{Leads, leads_start, leads_ok, leads_err, leads_end, leads_off, under_live, added-like}
 use Rattle.arimaa_results.proofs.Kept.{kept_first, last_split, last_end, first_live, reading_first}
 use Rattle.arimaa_results.proofs.Layers.{IsRead, live-more, layers-count}

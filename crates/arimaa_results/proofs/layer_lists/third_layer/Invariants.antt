@@ -3,7 +3,7 @@ use Rattle.arimaa_region.specs.Same.{same_position, same_words}
 use Rattle.arimaa_region.specs.Segments.{live_of}
 use Rattle.arimaa_results.specs.Ahead.{brings}
 use Rattle.arimaa_results.specs.LastSteps.{next_in_order, brings_last}
-use Rattle.arimaa_results.specs.Layering.{keeps, layer, layers_to}
+use Rattle.arimaa_results.specs.Layers.{keeps, layer, layers_to}
 use Rattle.arimaa_results.proofs.Adding.{Leads}
 use Rattle.arimaa_results.proofs.layer_lists.third_layer.Given as goal
 

@@ -1,5 +1,5 @@
 use Rattle.std.proofs.Common.{sym, ap, subst}
-use Rattle.arimaa_step.specs.declared.accepted.AcceptedSteps.{AcceptedSteps}
+use Rattle.arimaa_step.specs.declared.accepted_steps.AcceptedSteps.{AcceptedSteps}
 use Rattle.arimaa_results.specs.NextStates.{pairs_left, AreAllAccepted}
 use Rattle.arimaa_results.proofs.StatePairs.{left_accepted, pairs_taken, is_accepted, pairs_none}
 use Rattle.arimaa_results.proofs.next_states.take_step.Goals as goal

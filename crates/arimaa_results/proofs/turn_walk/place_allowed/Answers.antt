@@ -2,12 +2,12 @@ use Rattle.std.proofs.Common.{◌≡◌, [], ◌∷◌, true, false, cond, subst
 use Rattle.std.specs.Prelude.{not}
 use Rattle.std.proofs.lemmas.Bool.{false_from_ne_true}
 use Rattle.arimaa_board.specs.declared.position.Position.{Position}
-use Rattle.arimaa_region.specs.Placed.{is_full}
+use Rattle.arimaa_region.specs.Placement.{is_full}
 use Rattle.arimaa_region.specs.Placing.{with_placed}
 use Rattle.arimaa_region.specs.Same.{same_position, same_position-Decides, stands_in}
 use Rattle.arimaa_region.specs.Segments.{Held, top}
 use Rattle.arimaa_region.proofs.Standing.{stands_in-Decides}
-use Rattle.arimaa_results.specs.Adding.{IsFilled}
+use Rattle.arimaa_results.specs.Additions.{IsFilled}
 use Rattle.arimaa_results.specs.Ahead.{allowed}
 use Rattle.arimaa_results.proofs.Adding.{added-full}
 use Rattle.arimaa_results.proofs.turn_walk.place_allowed.Goals as goal

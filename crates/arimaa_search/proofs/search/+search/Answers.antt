@@ -14,7 +14,7 @@ use Rattle.arimaa_table.specs.Passes.{setting_of, lines_of, steps_of}
 use Rattle.arimaa_forced.specs.Search.{is_decisive, cost}
 use Rattle.arimaa_forced.proofs.Deeper.{cost-some, crowd-deeper}
 use Rattle.arimaa_forced.proofs.Midst.{Midst, midst-start, midst-more, midst-paid}
-use Rattle.arimaa_search.specs.Asking.{Answered}
+use Rattle.arimaa_search.specs.PaidAnswers.{Answered}
 use Rattle.arimaa_search.proofs.Lists.{after_first, live-length, first_left, none_left, part_length}
 use Rattle.arimaa_search.proofs.Looking.{decisive-answer, end-answer, stopped-answer, early-answer, midst-past, decisive-by}
 use Rattle.arimaa_search.proofs.WonPositions.{none_won, after_part}

@@ -1,4 +1,4 @@
-use Rattle.arimaa_step.specs.Commuting.{is_of, is_trap_of}
+use Rattle.arimaa_step.specs.CommutingSteps.{is_of, is_trap_of}
 use Rattle.arimaa_step.proofs.TurnedMasks.{close_mask, trap_mask, zone_mask}
 use Rattle.arimaa_step.proofs.earlier_steps.zone_of.Goals as goal
 

@@ -1,6 +1,6 @@
 use Rattle.std.proofs.Common.{◌≡◌, ◌≤◌, ◌<◌, length, get_or, sym, ◌∙◌, ap, arith, None}
 use Rattle.std.proofs.lemmas.List.{length-map}
-use Rattle.arimaa_board.specs.Noted.{noted_marks}
+use Rattle.arimaa_board.specs.NotedTurns.{noted_marks}
 use Rattle.arimaa_step.proofs.MarkLaws.{marked, marked_more, marked_all, length-marks_of}
 use Rattle.arimaa_model.specs.Marks.{marks_of}
 use Rattle.arimaa_step.proofs.marks.with_marks.Goals as goal

@@ -1,5 +1,5 @@
 use Rattle.std.proofs.Common.{◌≡◌, take, drop}
-use Rattle.arimaa_board.specs.Noted.{noted_turn, noted_marks}
+use Rattle.arimaa_board.specs.NotedTurns.{noted_turn, noted_marks}
 use Rattle.arimaa_model.specs.Marks.{marks_of}
 use Rattle.arimaa_step.proofs.marks.with_marks.Given as goal
 

@@ -1,7 +1,7 @@
 use Rattle.std.proofs.Common.{◌≡◌, drop}
 use Rattle.std.specs.Prelude.{is_none}
 use Rattle.std.specs.List.{filter}
-use Rattle.arimaa_model.specs.Decided.{decided}
+use Rattle.arimaa_model.specs.DecidedPositions.{decided}
 use Rattle.arimaa_model.specs.Results.{first_occurrences}
 use Rattle.arimaa_region.specs.Segments.{live_of}
 use Rattle.arimaa_strategy.proofs.queue.meet_all.Given as goal

@@ -1,5 +1,5 @@
 use Rattle.std.proofs.Common.{sym, subst}
-use Rattle.arimaa_judge.specs.Judged.{HasFitBoards, IsJudged}
+use Rattle.arimaa_judge.specs.Judgement.{HasFitBoards, IsJudged}
 use Rattle.arimaa_cli.specs.declared.commands.make.TheConstants.{SETUPS}
 use Rattle.arimaa_cli.specs.Commands.Make.{IsStart}
 use Rattle.arimaa_cli.proofs.Fitting.{last_fit}

@@ -1,6 +1,6 @@
 use Rattle.std.proofs.Common.{◌≡◌, ℕ, List, Option, None, Some, length, ap, subst, arith}
 use Rattle.arimaa_board.specs.declared.position.Position.{Position}
-use Rattle.arimaa_judge.specs.Judged.{IsJudged}
+use Rattle.arimaa_judge.specs.Judgement.{IsJudged}
 use Rattle.arimaa_cli.specs.Commands.Make.{IsMade, made_of}
 use Rattle.arimaa_cli.specs.Commands.Make.IsMakeAnswer.{bad, crowded, lawful}
 use Rattle.arimaa_cli.proofs.commands.make.answer.Goals as goal

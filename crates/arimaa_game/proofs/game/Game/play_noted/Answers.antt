@@ -1,5 +1,5 @@
 use Rattle.std.proofs.Common.{◌≡◌, ◌∙◌, ap, sym, subst, false, refl, Err, Some}
-use Rattle.arimaa_board.specs.Noted.{noted_marks, noted_turn}
+use Rattle.arimaa_board.specs.NotedTurns.{noted_marks, noted_turn}
 use Rattle.arimaa_board.specs.declared.position.Position.{Position}
 use Rattle.arimaa_model.specs.Marks.{marks_right}
 use Rattle.arimaa_game.specs.Faults.{rule_of_answer}

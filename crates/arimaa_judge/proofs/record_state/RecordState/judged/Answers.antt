@@ -1,7 +1,7 @@
 use Rattle.std.proofs.Common.{◌≡◌, ◌∙◌, ap, length, subst, sym}
 use Rattle.arimaa_game.specs.Play.{turns_in}
 use Rattle.arimaa_judge.specs.declared.judgement.Judged.TheVariants.{Lawful}
-use Rattle.arimaa_judge.specs.Judged.{lawful_of}
+use Rattle.arimaa_judge.specs.Judgement.{lawful_of}
 use Rattle.arimaa_judge.specs.RecordState.{RecordState, declared_or}
 use Rattle.arimaa_judge.specs.RecordStateInvariant.{history_of, labels_before}
 use Rattle.arimaa_judge.proofs.Accepting.{ended_by}

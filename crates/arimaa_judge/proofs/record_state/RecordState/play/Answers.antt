@@ -1,6 +1,6 @@
 use Rattle.std.proofs.Common.{◌≡◌, ◌∙◌, ap, cond, false, rules, sym}
 use Rattle.std.specs.Prelude.{is_some}
-use Rattle.arimaa_board.specs.Noted.{noted_turn}
+use Rattle.arimaa_board.specs.NotedTurns.{noted_turn}
 use Rattle.arimaa_game.specs.Play.{turns_in}
 use Rattle.arimaa_judge.specs.declared.record_state.Stage.TheVariants as stage
 use Rattle.arimaa_judge.specs.RecordState.{RecordState, with_played, with_turn}

@@ -5,7 +5,7 @@ use Rattle.arimaa_jobs.specs.declared.view.SeatView.{SeatView}
 use Rattle.arimaa_jobs.specs.Rule.{view_after_split, view_of_new_seat}
 use Rattle.arimaa_jobs.specs.Seats.{view}
 use Rattle.arimaa_pool.specs.Jobs.{IsFresh}
-use Rattle.arimaa_pool.specs.declared.seated.Seated.{Seated}
+use Rattle.arimaa_pool.specs.declared.seat.Seated.{Seated}
 use Rattle.arimaa_pool.specs.Terms.{Terms}
 use Rattle.arimaa_pool.proofs.JobLaws.{worked-nothing}
 use Rattle.arimaa_pool.proofs.shift.Shift.seat_all.Goals as goal

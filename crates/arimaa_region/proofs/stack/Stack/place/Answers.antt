@@ -1,6 +1,6 @@
 use Rattle.std.proofs.Common.{◌≡◌, ℕ, ◌+◌, ◌-◌, ◌<◌, suc, [], ◌∷◌, ◌++◌, length, get_or, ap, sym, ◌∙◌, arith, subst}
 use Rattle.std.proofs.lemmas.List.{length_push}
-use Rattle.arimaa_region.specs.declared.placed.Placed.TheVariants.{New, There, Full}
+use Rattle.arimaa_region.specs.declared.placement.Placed.TheVariants.{New, There, Full}
 use Rattle.arimaa_region.specs.Layout.{IsSound}
 use Rattle.arimaa_region.specs.Index.{Indexed}
 use Rattle.arimaa_region.specs.Segments.{Stacked}

@@ -4,8 +4,8 @@ use Rattle.arimaa_board.specs.declared.square.Dir.{Dir}
 use Rattle.arimaa_board.specs.declared.square.Dir.TheVariants.{North, East, South, West}
 use Rattle.arimaa_board.specs.Masks.{IsMaskOf}
 use Rattle.arimaa_model.specs.Results.{step_of}
-use Rattle.arimaa_step.specs.Accepted.{accepts, AreAccepted}
-use Rattle.arimaa_step.specs.Commuting.{commutes_before, moves_calmly}
+use Rattle.arimaa_step.specs.AcceptedSteps.{accepts, AreAccepted}
+use Rattle.arimaa_step.specs.CommutingSteps.{commutes_before, moves_calmly}
 use Rattle.arimaa_step.specs.Next.{next_state}
 use Rattle.arimaa_step.proofs.TurnedMasks.{in_order_calm, in_order_all}
 use Rattle.arimaa_step.proofs.state.TurnState.accepted_in_order.Goals as goal

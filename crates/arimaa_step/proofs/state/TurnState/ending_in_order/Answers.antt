@@ -1,5 +1,5 @@
 use Rattle.std.proofs.Common.{sym, ◌∙◌, subst}
-use Rattle.arimaa_step.specs.Accepted.{AreEnding}
+use Rattle.arimaa_step.specs.AcceptedSteps.{AreEnding}
 use Rattle.arimaa_step.proofs.TurnedMasks.{in_order_alone, in_order_other}
 use Rattle.arimaa_step.proofs.state.TurnState.ending_in_order.Goals as goal
 

@@ -1,5 +1,0 @@
-use Rattle.std.proofs.Common.{◌≡◌, take}
-use Rattle.arimaa_history.proofs.barred.Barred.copy.Given as goal
-
-abbrev pub invariant-positions : goal.invariant-positions
-invariant-positions l = l.copy ≡ take l.p-index l.p-items
