@@ -3,7 +3,7 @@ use Rattle.std.proofs.Common.{◌≡◌, ℕ, List, [], ◌∷◌, refl, ◌∙�
 use Rattle.std.specs.Prelude.{IfOk}
 use Rattle.std.proofs.lemmas.Result.{IfOk-weaker}
 use Rattle.arimaa_notation.specs.Items.{trimmed}
-use Rattle.arimaa_notation.proofs.WordLaws.{trimmed-blank}
+use Rattle.arimaa_notation.proofs.Lemmas.WordLaws.{trimmed-blank}
 use Rattle.arimaa_aei.specs.Answers.{Spoken, Version, Id, AeiOk, ReadyOk, BestMove, Info, Log, Other, spoken}
 use Rattle.arimaa_aei.specs.Words.{answer_word_of}
 use Rattle.arimaa_aei.specs.Written.{IsTrimmed, text_of_spoken}

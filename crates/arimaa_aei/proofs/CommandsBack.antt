@@ -18,18 +18,18 @@ use Rattle.arimaa_board.specs.declared.position.Position.{Position}
 use Rattle.arimaa_board.specs.declared.turn.NotedStep.{NotedStep}
 use Rattle.arimaa_board.specs.Setup.{Lineup, IsLineup, army, pieces_in}
 use Rattle.arimaa_board.specs.Text.{places_of, reading_of, text_of}
-use Rattle.arimaa_board.proofs.TextLaws.{piece_of_letter-letter_of_content}
+use Rattle.arimaa_board.proofs.Lemmas.TextLaws.{piece_of_letter-letter_of_content}
 use Rattle.arimaa_notation.specs.Grammar.{IsSetupText, IsTurnText}
 use Rattle.arimaa_notation.specs.Items.{items_of, trimmed, word_of}
 use Rattle.arimaa_notation.specs.Readers.{setup_of_text}
 use Rattle.arimaa_notation.specs.Written.{items_of_entries, joined, text_of_entry, text_of_setup, text_of_step, text_of_turn}
-use Rattle.arimaa_notation.proofs.ItemLaws.{items-blank}
-use Rattle.arimaa_notation.proofs.Numbers.{number_back}
-use Rattle.arimaa_notation.proofs.Reading.{turn_back}
-use Rattle.arimaa_notation.proofs.ReadingBack.{IsWord, entry_words, items-joined}
-use Rattle.arimaa_notation.proofs.SetupRule.{setup_back}
-use Rattle.arimaa_notation.proofs.WrittenLaws.{size-lineup}
-use Rattle.arimaa_notation.proofs.WordLaws.{blank_before_setup, blank_before_turn, first_word, trimmed-blank, trimmed-solid}
+use Rattle.arimaa_notation.proofs.Lemmas.ItemLaws.{items-blank}
+use Rattle.arimaa_notation.proofs.Lemmas.Numbers.{number_back}
+use Rattle.arimaa_notation.proofs.Lemmas.Reading.{turn_back}
+use Rattle.arimaa_notation.proofs.Lemmas.ReadingBack.{IsWord, entry_words, items-joined}
+use Rattle.arimaa_notation.proofs.Lemmas.SetupRule.{setup_back}
+use Rattle.arimaa_notation.proofs.Lemmas.WrittenLaws.{size-lineup}
+use Rattle.arimaa_notation.proofs.Lemmas.WordLaws.{blank_before_setup, blank_before_turn, first_word, trimmed-blank, trimmed-solid}
 use Rattle.arimaa_aei.specs.declared.command.Command.{Command}
 use Rattle.arimaa_aei.specs.declared.command.Command.TheVariants as command
 use Rattle.arimaa_aei.specs.declared.command.OptionName.{OptionName}

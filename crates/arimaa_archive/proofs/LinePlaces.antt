@@ -6,7 +6,7 @@ use Rattle.std.proofs.lemmas.Bool.{cases_lt}
 use Rattle.std.proofs.lemmas.List.{take-take, drop-take, drop_all, get_or-take}
 use Rattle.std.proofs.lemmas.List.Sums.{fails_before_first, passes_at_first, position_or_len_is}
 use Rattle.arimaa_record.specs.Lines.{is_feed, lines_of}
-use Rattle.arimaa_record.proofs.LineLaws.{lines-first, no_lines}
+use Rattle.arimaa_record.proofs.Lemmas.LineLaws.{lines-first, no_lines}
 
 take_none : (m : ℕ) (xs : List ℕ) → xs ≡ [] → take m xs ≡ []
 take_none zero xs e = refl

@@ -5,7 +5,7 @@ use Rattle.std.specs.List.{position_or_len}
 use Rattle.std.specs.Str.Lines.{strip_carriage_return}
 use Rattle.std.proofs.lemmas.List.{append-nil, drop_all, map-append}
 use Rattle.arimaa_record.specs.Lines.{is_feed, lines_of}
-use Rattle.arimaa_record.proofs.LineLaws.{no_lines}
+use Rattle.arimaa_record.proofs.Lemmas.LineLaws.{no_lines}
 use Rattle.arimaa_archive.specs.declared.parts.Part.{Part}
 use Rattle.arimaa_archive.specs.Archive.{IsLineStart, is_game_line, lines_before_game, lines_of_part, place_from, records_from, records_of}
 use Rattle.arimaa_archive.proofs.LinePlaces.{line_alone, lines_front, lines_then}

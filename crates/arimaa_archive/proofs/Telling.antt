@@ -3,7 +3,7 @@ use Rattle.std.proofs.Common.{◌≡◌, ℕ, List, [], ◌∷◌, ◌++◌, map
 use Rattle.std.specs.List.{AllZip}
 use Rattle.arimaa_record.specs.Laws.{LinesApart}
 use Rattle.arimaa_judge.specs.RecordState.{before_lines}
-use Rattle.arimaa_judge.proofs.JudgedLines.{one_judgement}
+use Rattle.arimaa_judge.proofs.Lemmas.JudgedLines.{one_judgement}
 use Rattle.arimaa_archive.specs.declared.record_judgement.Told.{Told}
 use Rattle.arimaa_archive.specs.RecordJudgements.{IsTold, told_of}
 

@@ -7,7 +7,7 @@ use Rattle.std.proofs.lemmas.Nat.Bits.{bit_at_and, bit_at_xor, bit_at_above, bit
 use Rattle.std.proofs.lemmas.Bool.{cases_eq, cases_lt, and_parts}
 use Rattle.std.proofs.lemmas.Bool.Decides.{nat_tests}
 use Rattle.arimaa_board.specs.Transpose.{bit_in, low_source, high_source, swap_source, exchanged}
-use Rattle.arimaa_board.proofs.Beside.{bit_at-up, bit_at-up_low, bit_at-down, upto, upto_all}
+use Rattle.arimaa_board.proofs.Lemmas.Beside.{bit_at-up, bit_at-up_low, bit_at-down, upto, upto_all}
 
 -- a bit, and another one where the mask has it
 mixed : (x y m : ℕ) → x < 2 → y < 2 → m < 2 → (x + min ((x + y) % 2) m) % 2 ≡ if m == 1 then y else x

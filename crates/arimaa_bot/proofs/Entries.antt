@@ -11,8 +11,8 @@ use Rattle.arimaa_forced.specs.Entries.{entry_with_marks}
 use Rattle.arimaa_model.specs.DecidedPositions.{decided}
 use Rattle.arimaa_model.specs.Strategies.{Planned, entry_of, first_met, met, strategy_of}
 use Rattle.arimaa_model.specs.Wins.{wins}
-use Rattle.arimaa_model.proofs.Meeting.{first-met}
-use Rattle.arimaa_model.proofs.Members.{In, filter-In}
+use Rattle.arimaa_model.proofs.Lemmas.Meeting.{first-met}
+use Rattle.arimaa_model.proofs.Lemmas.Members.{In, filter-In}
 
 some_first : (f : Position → Planned) (p : Position) (ps : List Position) → In p ps → (e : Planned) × (slice_get (map f ps) 0 ≡ Some e)
 some_first f p [] i = absurd i

@@ -11,7 +11,7 @@ use Rattle.arimaa_board.specs.Fit.{IsFit}
 use Rattle.arimaa_board.specs.Piece.{piece_of_letter}
 use Rattle.arimaa_board.specs.Setup.{Lineup}
 use Rattle.arimaa_board.specs.Text.{reading_of}
-use Rattle.arimaa_board.proofs.ReadingLaws.{read_IsBoardText}
+use Rattle.arimaa_board.proofs.Lemmas.ReadingLaws.{read_IsBoardText}
 use Rattle.arimaa_notation.specs.Items.{after_word, items_of, trimmed, word_of}
 use Rattle.arimaa_notation.specs.Readers.{number_of_text, setup_of_text, turn_of_text}
 use Rattle.arimaa_aei.specs.Commands.{alone, command_of, command_said, move_said, option_named, option_of_parts, option_said, position_of_parts, setup_said, setup_told, side_of, turn_told, value_said}

@@ -4,7 +4,7 @@ use Rattle.std.specs.Option.{unwrap_or}
 use Rattle.arimaa_options.specs.declared.search_options.SearchOptions.{SearchOptions}
 use Rattle.arimaa_options.specs.Options.{AreOptions}
 use Rattle.arimaa_options.specs.Options as options
-use Rattle.arimaa_options.proofs.OptionForms.{one_options}
+use Rattle.arimaa_options.proofs.Lemmas.OptionForms.{one_options}
 use Rattle.arimaa_bot.specs.declared.lookahead.Lookahead.{Lookahead}
 use Rattle.arimaa_bot.specs.Lookaheads.{AreWithinRanges, AskFor, lookahead_of}
 

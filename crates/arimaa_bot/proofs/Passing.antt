@@ -6,7 +6,7 @@ use Rattle.arimaa_outside.specs.declared.port_answer.PortAnswer.{PortAnswer}
 use Rattle.arimaa_outside.specs.declared.port_answer.PortAnswer.TheVariants as answer
 use Rattle.arimaa_outside.specs.declared.port_fault.PortFault.{PortFault}
 use Rattle.arimaa_outside.specs.declared.port_fault.PortFault.TheVariants as port
-use Rattle.arimaa_outside.proofs.ToldLaws.{told_nothing, told_both}
+use Rattle.arimaa_outside.proofs.Lemmas.ToldLaws.{told_nothing, told_both}
 use Rattle.arimaa_bot.specs.Calls.{BrokeOff, Passed, Told, WereSent}
 use Rattle.arimaa_bot.specs.Talk.{all_sent}
 

@@ -7,10 +7,10 @@ use Rattle.arimaa_board.specs.declared.position.Step.{Step}
 use Rattle.arimaa_model.specs.DecidedPositions.{decided}
 use Rattle.arimaa_model.specs.Game.{barred_by, ended_for, ending_at, lawful_at, present}
 use Rattle.arimaa_model.specs.Results.{result_of, results}
-use Rattle.arimaa_model.proofs.Barring.{next-lawful}
+use Rattle.arimaa_model.proofs.Lemmas.Barring.{next-lawful}
 use Rattle.arimaa_results.specs.Conditions.{brings_passing, first_passing}
 use Rattle.arimaa_game.specs.Play.{Play, ending_of}
-use Rattle.arimaa_game.proofs.Endings.{ending-present, ending_at-decided, ending_at-undecided, left-none, running-rules}
+use Rattle.arimaa_game.proofs.Lemmas.Endings.{ending-present, ending_at-decided, ending_at-undecided, left-none, running-rules}
 use Rattle.arimaa_bot.specs.Choice.{is_allowed, is_safe, plain_turn}
 
 -- the present position of a game that goes on is undecided

@@ -12,14 +12,14 @@ use Rattle.arimaa_model.specs.Faults.{applied}
 use Rattle.arimaa_model.specs.Game.{barred_by, count_in, ended_for, ending, ending_at, lawful_at, present}
 use Rattle.arimaa_model.specs.Results.{next, position_of, result_of, results, stands_in}
 use Rattle.arimaa_model.specs.Turns.{after_all, is_turn}
-use Rattle.arimaa_model.proofs.Barring.{next-lawful, once-unbarred}
-use Rattle.arimaa_model.proofs.Lists.{or-none}
-use Rattle.arimaa_model.proofs.Listed.{result-turn}
-use Rattle.arimaa_model.proofs.Members.{In, In-filter}
-use Rattle.arimaa_model.proofs.RelatedTurns.{turn-Decides}
+use Rattle.arimaa_model.proofs.Lemmas.Barring.{next-lawful, once-unbarred}
+use Rattle.arimaa_model.proofs.Lemmas.Lists.{or-none}
+use Rattle.arimaa_model.proofs.Lemmas.Listed.{result-turn}
+use Rattle.arimaa_model.proofs.Lemmas.Members.{In, In-filter}
+use Rattle.arimaa_model.proofs.Lemmas.RelatedTurns.{turn-Decides}
 use Rattle.arimaa_record.specs.declared.label.Label.{Label}
 use Rattle.arimaa_record.specs.Label.{next_label}
-use Rattle.arimaa_step.proofs.Outcomes.{apply_law}
+use Rattle.arimaa_step.proofs.Lemmas.Outcomes.{apply_law}
 use Rattle.arimaa_game.specs.Play.{Play, ending_of, played}
 use Rattle.arimaa_cli.specs.Commands.Make.{GoesOnAt, IsMadeFrom, IsPicked, number_after, turn_line}
 use Rattle.arimaa_cli.specs.Commands.Make.IsMadeFrom.{turn as one_more}

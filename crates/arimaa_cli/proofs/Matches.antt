@@ -5,7 +5,7 @@ use Rattle.arimaa_outside.specs.Counts.{Counts}
 use Rattle.arimaa_outside.specs.declared.status.Status.{Status}
 use Rattle.arimaa_outside.specs.declared.status.Status.TheVariants.{Done, EngineFault, Memory, WriteFault}
 use Rattle.arimaa_time.specs.Fields.{IsControl}
-use Rattle.arimaa_time.proofs.Controls.{read_laws}
+use Rattle.arimaa_time.proofs.Lemmas.Controls.{read_laws}
 use Rattle.arimaa_match.specs.declared.ending.MatchEnd.{MatchEnd}
 use Rattle.arimaa_match.specs.declared.ending.MatchEnd.TheVariants as end
 use Rattle.arimaa_match.specs.Programs.{HasSpawnerCause}

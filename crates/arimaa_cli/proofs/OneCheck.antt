@@ -24,8 +24,8 @@ use Rattle.arimaa_strategy.specs.Checks.AreAsked.{entry as asked_of, root as ask
 use Rattle.arimaa_strategy.specs.Entries.{plan_of}
 use Rattle.arimaa_strategy.specs.Faults.{AreFaultless, fault_of, root_fault}
 use Rattle.arimaa_strategy.specs.Text.{AreLinesOf, IsFirstBadLine, IsStrategyText}
-use Rattle.arimaa_strategy.proofs.FaultLaws.{all_faultless}
-use Rattle.arimaa_strategy.proofs.TextReading.{bad_read, entries_read}
+use Rattle.arimaa_strategy.proofs.Lemmas.FaultLaws.{all_faultless}
+use Rattle.arimaa_strategy.proofs.Lemmas.TextReading.{bad_read, entries_read}
 use Rattle.arimaa_cli.specs.declared.answer.Answer.{Answer}
 use Rattle.arimaa_cli.specs.declared.answer.Answer.TheVariants.{Answered}
 use Rattle.arimaa_cli.specs.declared.commands.check.Checking.{Checking}

@@ -23,8 +23,8 @@ use Rattle.arimaa_refute.specs.Checks.AreAsked.{escape as asked_of, root as aske
 use Rattle.arimaa_refute.specs.Escapes.{Holds}
 use Rattle.arimaa_refute.specs.Flaws.{AreFlawless, flaw_of}
 use Rattle.arimaa_refute.specs.Text.{IsEscapesText, IsFirstBadLine}
-use Rattle.arimaa_refute.proofs.EscapeReading.{bad-read, escapes-read}
-use Rattle.arimaa_refute.proofs.FlawLaws.{all-flawless}
+use Rattle.arimaa_refute.proofs.Lemmas.EscapeReading.{bad-read, escapes-read}
+use Rattle.arimaa_refute.proofs.Lemmas.FlawLaws.{all-flawless}
 use Rattle.arimaa_cli.specs.declared.answer.Answer.{Answer}
 use Rattle.arimaa_cli.specs.declared.answer.Answer.TheVariants.{Answered}
 use Rattle.arimaa_cli.specs.declared.commands.check.Checking.{Checking}

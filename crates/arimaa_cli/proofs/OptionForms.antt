@@ -3,7 +3,7 @@ use Rattle.std.proofs.Common.{◌≡◌, ℕ, List, Option, None, Some, sym, ◌
 use Rattle.arimaa_pool.specs.declared.settings.Settings.{Settings}
 use Rattle.arimaa_options.specs.declared.search_options.SearchOptions.{SearchOptions}
 use Rattle.arimaa_options.specs.Options as options
-use Rattle.arimaa_options.proofs.OptionForms as forms
+use Rattle.arimaa_options.proofs.Lemmas.OptionForms as forms
 use Rattle.arimaa_cli.specs.Options.{AreOptions, AreOptionsOfOne}
 
 -- words are options that set one thing

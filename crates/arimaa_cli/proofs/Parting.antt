@@ -7,8 +7,8 @@ use Rattle.std.proofs.Math.Seq.{take-add}
 use Rattle.std.proofs.lemmas.List.{append-nil, drop-drop, drop_all, get_or-take, get_or_append_left, length-take-le, take-append-drop, take-append-le, take-take}
 use Rattle.std.proofs.lemmas.List.Sums.{position_or_len_is}
 use Rattle.arimaa_record.specs.Lines.{is_feed, lines_of, lines_of_pieces}
-use Rattle.arimaa_record.proofs.LineLaws.{lines-first, no_lines}
-use Rattle.arimaa_record.proofs.PlainLaws.{all_append}
+use Rattle.arimaa_record.proofs.Lemmas.LineLaws.{lines-first, no_lines}
+use Rattle.arimaa_record.proofs.Lemmas.PlainLaws.{all_append}
 use Rattle.arimaa_cli.specs.Parts.{AreWholeLines, IsFirstLine, IsParted, NoneSays, Says}
 
 -- ---- whole lines

@@ -3,7 +3,7 @@ use Rattle.std.proofs.Common.{◌≡◌, ℕ, List, [], Option, None, Some, inl,
 use Rattle.std.specs.Prelude.{IfNone, IfOk, IfSome, Result, Ok, Err, alloc_error, unwrap_or}
 use Rattle.std.specs.declared.alloc.AllocError.{AllocError}
 use Rattle.arimaa_outside.specs.ToldLines.{told_before}
-use Rattle.arimaa_outside.proofs.ToldLaws.{told_nothing}
+use Rattle.arimaa_outside.proofs.Lemmas.ToldLaws.{told_nothing}
 use Rattle.arimaa_outside.specs.Counts.{Counts}
 use Rattle.arimaa_outside.specs.declared.port_answer.PortAnswer.{PortAnswer}
 use Rattle.arimaa_outside.specs.declared.port_fault.PortFault.TheVariants as port

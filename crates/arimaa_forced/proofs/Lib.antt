@@ -1,8 +1,2 @@
-pub mod Deeper
-pub mod Looks
-pub mod Trees
-pub mod Plays
-pub mod OwnStrategies
-pub mod NotedEntries
+pub mod Lemmas
 pub mod Meetings
-pub mod Midst

@@ -1,3 +1,2 @@
-pub mod Endings
-pub mod Turns
+pub mod Lemmas
 pub mod SetUp

@@ -11,12 +11,12 @@ use Rattle.std.proofs.lemmas.List.Folds.{list_any-append}
 use Rattle.arimaa_board.specs.declared.position.Position.{Position}
 use Rattle.arimaa_model.specs.Results.{same_position, stands_in}
 use Rattle.arimaa_model.specs.Game.{barred_by, count_in}
-use Rattle.arimaa_model.proofs.Positions.{same_position-Decides, count-more}
-use Rattle.arimaa_model.proofs.Barring.{barred-more}
+use Rattle.arimaa_model.proofs.Lemmas.Positions.{same_position-Decides, count-more}
+use Rattle.arimaa_model.proofs.Lemmas.Barring.{barred-more}
 use Rattle.arimaa_history.specs.declared.key.Key.{Key}
 use Rattle.arimaa_history.specs.Keys.{key_of, position_at}
 use Rattle.arimaa_history.specs.Counts.{order_of, same_key, count_of, AreCounts, AreKept, AreKeys, IsCounted, HasKeys, has_key}
-use Rattle.arimaa_history.proofs.KeyTests.{order-Decides, same_keys, tied_keys}
+use Rattle.arimaa_history.proofs.Lemmas.KeyTests.{order-Decides, same_keys, tied_keys}
 
 -- a count that is the same as before, at a key and at one that ties with it
 same_count : (counts : BTreeMap Key ℕ) (key k : Key) → cond (is_eq (order_of key k)) (count_of counts key) (count_of counts k) ≡ count_of counts k

@@ -12,12 +12,12 @@ use Rattle.arimaa_board.specs.declared.position.Position.{Position}
 use Rattle.arimaa_model.specs.Members.{AreDistinct}
 use Rattle.arimaa_model.specs.Results.{same_position, stands_in}
 use Rattle.arimaa_model.specs.Game.{barred_by, count_in, if_second}
-use Rattle.arimaa_model.proofs.Positions.{same_position-Decides, same_position-same, count-more}
-use Rattle.arimaa_model.proofs.Barring.{barred-more}
+use Rattle.arimaa_model.proofs.Lemmas.Positions.{same_position-Decides, same_position-same, count-more}
+use Rattle.arimaa_model.proofs.Lemmas.Barring.{barred-more}
 use Rattle.arimaa_history.specs.declared.key.Key.{Key}
 use Rattle.arimaa_history.specs.Keys.{key_of, position_at}
 use Rattle.arimaa_history.specs.Counts.{order_of, same_key, count_of, has_key, without_last, AreCounts, AreKept, AreKeys, HasKeys, IsCounted}
-use Rattle.arimaa_history.proofs.KeyTests.{same_keys, tied_keys}
+use Rattle.arimaa_history.proofs.Lemmas.KeyTests.{same_keys, tied_keys}
 
 -- what stands before the last position
 pub without_last-push : (h : List Position) (p : Position) → without_last (h ++ p ∷ []) ≡ h

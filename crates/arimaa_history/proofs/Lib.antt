@@ -1,4 +1,3 @@
-pub mod KeyTests
+pub mod Lemmas
 pub mod Counting
-pub mod Present
 pub mod LastPositions

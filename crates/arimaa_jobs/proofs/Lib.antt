@@ -1,3 +1,2 @@
-pub mod Counts
+pub mod Lemmas
 pub mod RuleSteps
-pub mod SeatLaws

@@ -9,7 +9,7 @@ use Rattle.atomic_table.specs.Table.{State, Me, step, keeps, Allows, Splits, Joi
 use Rattle.atomic_table.proofs.Lists.{at_set, at_snoc, set_else}
 use Rattle.arimaa_jobs.specs.declared.view.SeatView.{SeatView}
 use Rattle.arimaa_jobs.specs.Rule.{times, Stands, once_below, smallest_of, IsSeat, IsBlank, JobRule, Ruled, first_view, view_after_draw, view_after_report, view_after_split, view_of_new_seat, view_after_join, spent_view, WholeSees, IsAbove, TellsDraw, TellsReport, TellsLook}
-use Rattle.arimaa_jobs.proofs.Counts.{total-set, total-snoc, total-member, total-alone, times-append, once-suc, once-in, once-most, once-out, ends-snoc, ends-append, spare-left, smallest-append, least-small, least-set, least-same, least-spent, least-member, least-snoc, least-alone, apart_none, once_here}
+use Rattle.arimaa_jobs.proofs.Lemmas.Counts.{total-set, total-snoc, total-member, total-alone, times-append, once-suc, once-in, once-most, once-out, ends-snoc, ends-append, spare-left, smallest-append, least-small, least-set, least-same, least-spent, least-member, least-snoc, least-alone, apart_none, once_here}
 
 there : (l : List SeatView) (j : ℕ) (y a : SeatView) → get_elem? l j ≡ some y → get_elem? (set l j a) j ≡ some a
 there [] j y a e = absurd (some-ne-none y (sym e))

@@ -12,7 +12,7 @@ use Rattle.arimaa_model.specs.Wins.{is_nil}
 use Rattle.arimaa_history.specs.Counts.{without_last}
 use Rattle.arimaa_record.specs.declared.label.Label.{Label}
 use Rattle.arimaa_record.specs.Label.{is_last_at, is_last_label, label_after, label_of, next_label, previous_label}
-use Rattle.arimaa_record.proofs.LabelOrder.{previous-next}
+use Rattle.arimaa_record.proofs.Lemmas.LabelOrder.{previous-next}
 use Rattle.arimaa_board.specs.declared.ending.Ending.{Ending}
 use Rattle.arimaa_game.specs.Play.{Play, turns_in}
 use Rattle.arimaa_judge.specs.declared.record_state.Stage.{Stage}

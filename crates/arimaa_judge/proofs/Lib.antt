@@ -1,5 +1,4 @@
-pub mod TurnLaws
+pub mod Lemmas
 pub mod Accepting
-pub mod JudgedLines
 pub mod RecordReading
 pub mod DueLabels

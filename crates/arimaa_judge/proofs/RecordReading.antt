@@ -3,15 +3,15 @@ use Rattle.std.proofs.Common.{◌≡◌, ◌≤◌, ◌<◌, ◌+◌, ℕ, Bool,
 use Rattle.std.proofs.lemmas.Bool.{cases_lt}
 use Rattle.std.specs.Prelude.{IfSome, IsErrOf, option_map}
 use Rattle.std.specs.Io.KnownBytes.{IsAtEnd, prepend_known}
-use Rattle.arimaa_outside.proofs.Content.{gave_both}
+use Rattle.arimaa_outside.proofs.Lemmas.Content.{gave_both}
 use Rattle.arimaa_outside.specs.declared.source.ReadAll.{ReadAll}
 use Rattle.arimaa_outside.specs.declared.source.ReadAll.TheVariants.{Fault, TooLong, Memory}
 use Rattle.arimaa_outside.specs.declared.source.TheConstants.{INPUT_LIMIT}
 use Rattle.arimaa_record.specs.declared.line_reader.LineReader.{LineReader}
 use Rattle.arimaa_record.specs.Lines.{lines_of}
 use Rattle.arimaa_record.specs.LineReader.{Advances, IsFirstLine, IsNew, IsNext, Takes, to_come}
-use Rattle.arimaa_record.proofs.LineLaws.{no_lines}
-use Rattle.arimaa_record.proofs.LineGathering.{none_before}
+use Rattle.arimaa_record.proofs.Lemmas.LineLaws.{no_lines}
+use Rattle.arimaa_record.proofs.Lemmas.LineGathering.{none_before}
 use Rattle.arimaa_judge.specs.declared.judgement.Judged.{Judged}
 use Rattle.arimaa_judge.specs.declared.progress.Progress.{Progress}
 use Rattle.arimaa_judge.specs.Judgement.{IsJudged}

@@ -5,11 +5,11 @@ use Rattle.std.specs.declared.alloc.AllocError.{AllocError}
 use Rattle.arimaa_board.specs.declared.piece.Color.{Color}
 use Rattle.arimaa_board.specs.declared.piece.Color.TheVariants.{Gold, Silver}
 use Rattle.arimaa_outside.specs.Counts.{Counts, NeverFall}
-use Rattle.arimaa_outside.proofs.CountLaws.{falls_never, never_fall}
+use Rattle.arimaa_outside.proofs.Lemmas.CountLaws.{falls_never, never_fall}
 use Rattle.arimaa_engine.specs.declared.fault.EngineFault.{EngineFault}
 use Rattle.arimaa_engine.specs.declared.fault.EngineFault.TheVariants as fault
 use Rattle.arimaa_engine.specs.Faults.{HasCause, IsCause}
-use Rattle.arimaa_engine.proofs.Causes.{caused_later}
+use Rattle.arimaa_engine.proofs.Lemmas.Causes.{caused_later}
 use Rattle.std.proofs.Common.{ℕ, List, le_trans}
 use Rattle.arimaa_match.specs.declared.ending.MatchEnd.{MatchEnd}
 use Rattle.arimaa_match.specs.declared.ending.MatchEnd.TheVariants as end

@@ -2,8 +2,8 @@
 use Rattle.std.proofs.Common.{◌≡◌, List, [], ◌∷◌, ℕ, Option, Result, Ok, Err, refl, subst}
 use Rattle.std.specs.declared.alloc.AllocError.{AllocError}
 use Rattle.arimaa_outside.specs.ToldLines.{TellsMore}
-use Rattle.arimaa_outside.proofs.CountLaws.{falls_never}
-use Rattle.arimaa_outside.proofs.ToldLaws.{told_nothing}
+use Rattle.arimaa_outside.proofs.Lemmas.CountLaws.{falls_never}
+use Rattle.arimaa_outside.proofs.Lemmas.ToldLaws.{told_nothing}
 use Rattle.arimaa_match.specs.declared.side_fault.SideFault.{SideFault}
 use Rattle.arimaa_match.specs.Parts.{Part, PortView, Scene, Went, if_fine, no_lines, timing, unless_fault, with_value}
 use Rattle.arimaa_match.proofs.Parts.{went_done, went_off, went_on}

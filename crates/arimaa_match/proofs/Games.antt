@@ -23,10 +23,10 @@ use Rattle.arimaa_game.specs.declared.fault.GameFault.{GameFault}
 use Rattle.arimaa_game.specs.declared.fault.GameFault.TheVariants as faults
 use Rattle.arimaa_game.specs.Faults.{IsFaultOf, rule_broken as rule_of_fault}
 use Rattle.arimaa_game.specs.Play.{GoesOn, Play, ending_of, played_noted}
-use Rattle.arimaa_game.proofs.Endings.{running-rules}
+use Rattle.arimaa_game.proofs.Lemmas.Endings.{running-rules}
 use Rattle.arimaa_judge.specs.RecordStateInvariant.{IsUnderWay}
 use Rattle.arimaa_judge.specs.Rules.{rule_of_first, rule_of_game_fault, turn_rule}
-use Rattle.arimaa_judge.proofs.TurnLaws.{broken_rule, first_rule, goes}
+use Rattle.arimaa_judge.proofs.Lemmas.TurnLaws.{broken_rule, first_rule, goes}
 use Rattle.arimaa_match.specs.MatchState.{if_lawful, rightly_marked, turn_at, turn_in, with_marks}
 
 -- a turn that was played breaks no rule

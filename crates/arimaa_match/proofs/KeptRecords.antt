@@ -16,13 +16,13 @@ use Rattle.arimaa_board.specs.ColorLaws.{same_color-refl}
 use Rattle.arimaa_model.specs.Faults.{reached_by}
 use Rattle.arimaa_model.specs.Game.{closed_by, ending, present}
 use Rattle.arimaa_model.specs.Wins.{is_nil}
-use Rattle.arimaa_model.proofs.Present.{present-push}
+use Rattle.arimaa_model.proofs.Lemmas.Present.{present-push}
 use Rattle.arimaa_record.specs.declared.label.Label.{Label}
 use Rattle.arimaa_record.specs.declared.line.RecordLine.{RecordLine}
 use Rattle.arimaa_record.specs.declared.line.RecordLine.TheVariants as line
 use Rattle.arimaa_record.specs.Label.{label_after, label_of, next_label}
 use Rattle.arimaa_record.specs.Written.{IsInRange, IsWritable}
-use Rattle.arimaa_record.proofs.PlainLaws.{all_more}
+use Rattle.arimaa_record.proofs.Lemmas.PlainLaws.{all_more}
 use Rattle.arimaa_judge.specs.RecordState.{RecordState, after_line, before_lines, declared_or, is_playing, side_due as side_to_move, state_ending, with_bare, with_closing, with_setup_after, with_turn}
 use Rattle.arimaa_judge.specs.Rules.{rule_at, rule_of_line}
 use Rattle.arimaa_match.specs.Records.{AreAccepted}

@@ -16,8 +16,8 @@ use Rattle.arimaa_board.specs.ColorLaws.{same_color-refl}
 use Rattle.arimaa_model.specs.Game.{ending, present}
 use Rattle.arimaa_model.specs.Marks.{marks_of}
 use Rattle.arimaa_notation.specs.Readers.{setup_of_text, turn_of_text}
-use Rattle.arimaa_notation.proofs.Reading.{turn_named}
-use Rattle.arimaa_notation.proofs.SetupRule.{setup_named}
+use Rattle.arimaa_notation.proofs.Lemmas.Reading.{turn_named}
+use Rattle.arimaa_notation.proofs.Lemmas.SetupRule.{setup_named}
 use Rattle.arimaa_step.specs.declared.marks.Marks.TheVariants.{Optional}
 use Rattle.arimaa_step.specs.MarkRules.{marks_fit}
 use Rattle.arimaa_time.specs.declared.control.Control.{Control}

@@ -2,8 +2,8 @@
 use Rattle.std.proofs.Common.{◌≡◌, ◌∙◌, ◌++◌, List, [], Option, None, Some, Result, Ok, Err, ap, append_assoc, refl, subst, sym}
 use Rattle.std.specs.declared.alloc.AllocError.{AllocError}
 use Rattle.arimaa_outside.specs.ToldLines.{TellsMore, told_after}
-use Rattle.arimaa_outside.proofs.CountLaws.{falls_never, never_fall}
-use Rattle.arimaa_outside.proofs.ToldLaws.{told_nothing, told_twice, told_both}
+use Rattle.arimaa_outside.proofs.Lemmas.CountLaws.{falls_never, never_fall}
+use Rattle.arimaa_outside.proofs.Lemmas.ToldLaws.{told_nothing, told_twice, told_both}
 use Rattle.arimaa_match.specs.Parts.{Between, BrokeOff, Coming, Lines, Part, Scene, TookPlace, Went, WentSo, after_lines, and_lines, and_then, continued, done, going_on, joined, no_lines}
 
 pub joined_assoc : (a b c : Coming) → joined (joined a b) c ≡ joined a (joined b c)

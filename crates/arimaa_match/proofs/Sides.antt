@@ -5,8 +5,8 @@ use Rattle.std.specs.declared.alloc.AllocError.{AllocError}
 use Rattle.arimaa_board.specs.declared.piece.Color.{Color}
 use Rattle.arimaa_board.specs.declared.piece.Color.TheVariants.{Gold, Silver}
 use Rattle.arimaa_outside.specs.Counts.{NeverFall}
-use Rattle.arimaa_outside.proofs.CountLaws.{falls_never}
-use Rattle.arimaa_outside.proofs.ToldLaws.{told_nothing}
+use Rattle.arimaa_outside.proofs.Lemmas.CountLaws.{falls_never}
+use Rattle.arimaa_outside.proofs.Lemmas.ToldLaws.{told_nothing}
 use Rattle.arimaa_engine.specs.declared.fault.EngineFault.{EngineFault}
 use Rattle.arimaa_engine.specs.declared.fault.EngineFault.TheVariants as fault
 use Rattle.arimaa_engine.specs.Exchange.{Exchange, Told, TookPlaceOrBroke}

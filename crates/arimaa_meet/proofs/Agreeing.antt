@@ -4,7 +4,7 @@ use Rattle.std.proofs.lemmas.Option.{same_Some}
 use Rattle.arimaa_judge.specs.Agreement.{JudgementsAgree}
 use Rattle.arimaa_judge.specs.Judgement.{IsJudged}
 use Rattle.arimaa_record.specs.Written.{text_of_record}
-use Rattle.arimaa_record.proofs.FormLaws.{head_same, tail_same}
+use Rattle.arimaa_record.proofs.Lemmas.FormLaws.{head_same, tail_same}
 use Rattle.arimaa_match.specs.declared.ending.MatchDone.{MatchDone}
 use Rattle.arimaa_match.specs.Laws.{ToldOnce}
 use Rattle.arimaa_match.specs.Parts.{Coming, Ran, joined}

@@ -11,8 +11,8 @@ use Rattle.arimaa_meet.specs.Matches.{MeetMatch}
 use Rattle.arimaa_meet.specs.Shares.{AreShares, AreTold, IsTold, dealt_from, dealt_to}
 use Rattle.arimaa_meet.proofs.Dealing.{dealt_head, dealt_last, dealt_other, dealt_skip}
 use Rattle.arimaa_meet.proofs.ReportSteps.{told_count}
-use Rattle.arimaa_record.proofs.PlainLaws.{all_zip_push}
-use Rattle.arimaa_record.proofs.FormLaws.{head_same, tail_same}
+use Rattle.arimaa_record.proofs.Lemmas.PlainLaws.{all_zip_push}
+use Rattle.arimaa_record.proofs.Lemmas.FormLaws.{head_same, tail_same}
 
 -- an element of a list that has one
 pub some_of : {A : Type 0} (xs : List A) → 0 < length xs → A

@@ -13,7 +13,7 @@ use Rattle.arimaa_meet.specs.declared.match_report.Told.{Told}
 use Rattle.arimaa_meet.specs.Matches.{MeetMatch, outcome_of}
 use Rattle.arimaa_meet.specs.Shares.{HasPlayedPair, IsTold, dealt_to}
 use Rattle.arimaa_meet.proofs.Dealing.{dealt_last, dealt_other}
-use Rattle.arimaa_record.proofs.PlainLaws.{all_zip_push}
+use Rattle.arimaa_record.proofs.Lemmas.PlainLaws.{all_zip_push}
 
 module _ {L : Type 0} (sent : L → Option (List (List ℕ))) (answers : L → Option (List PortAnswer))
     (counts : L → Counts) (control : Control) where

@@ -4,11 +4,11 @@ use Rattle.std.specs.Prelude.{◌⊎◌}
 use Rattle.arimaa_outside.specs.declared.status.Status.{Status}
 use Rattle.arimaa_outside.specs.declared.status.Status.TheVariants.{Done, Memory, WriteFault}
 use Rattle.arimaa_time.specs.Fields.{IsControl}
-use Rattle.arimaa_time.proofs.Controls.{read_laws}
+use Rattle.arimaa_time.proofs.Lemmas.Controls.{read_laws}
 use Rattle.arimaa_meet.specs.declared.words.Asked.{Asked}
 use Rattle.arimaa_meet.specs.Words.{AreProgramsFrom, AsksForMeet}
 use Rattle.arimaa_outside.specs.Writing.{EndsWith}
-use Rattle.arimaa_record.proofs.FormLaws.{head_same, tail_same}
+use Rattle.arimaa_record.proofs.Lemmas.FormLaws.{head_same, tail_same}
 
 -- the first word, and then the others
 pub first_word : (words : List (List ℕ)) (text : List ℕ) → Some text ≡ slice_get words 0

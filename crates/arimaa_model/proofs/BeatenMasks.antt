@@ -2,8 +2,8 @@
 use Rattle.std.proofs.Common.{◌≡◌, ℕ, ◌&&◌, Bool, true, false, Option, None, Some, ◌⊎◌, inl, inr, ⊎_elim, subst, refl, sym}
 use Rattle.std.specs.Prelude.{◌||◌, not, nat_lt}
 use Rattle.std.proofs.lemmas.Bool.{and_right}
-use Rattle.arimaa_board.proofs.Masks.{by_content}
-use Rattle.arimaa_board.proofs.Friends.{beside_agree, friend_beside}
+use Rattle.arimaa_board.proofs.Lemmas.Masks.{by_content}
+use Rattle.arimaa_board.proofs.Lemmas.Friends.{beside_agree, friend_beside}
 use Rattle.arimaa_board.specs.declared.piece.Color.{Color}
 use Rattle.arimaa_board.specs.declared.piece.Color.TheVariants.{Gold, Silver}
 use Rattle.arimaa_board.specs.declared.piece.Kind.{Kind}

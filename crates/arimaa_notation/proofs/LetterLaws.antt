@@ -7,7 +7,7 @@ use Rattle.arimaa_board.specs.declared.position.Step.{Step}
 use Rattle.arimaa_board.specs.declared.square.Dir.{Dir}
 use Rattle.arimaa_board.specs.declared.square.Dir.TheVariants.{North, East, South, West}
 use Rattle.arimaa_board.specs.Piece.{letter_of, piece_of_letter, all_pieces}
-use Rattle.arimaa_board.proofs.TextLaws.{piece_of_letter-letter_of_content}
+use Rattle.arimaa_board.proofs.Lemmas.TextLaws.{piece_of_letter-letter_of_content}
 use Rattle.arimaa_notation.specs.Written.{column_of, row_of, letter_of_dir, text_of_step, text_of_mark, text_of_entry}
 
 -- a piece that is found by a letter has it

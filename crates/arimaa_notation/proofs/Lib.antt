@@ -1,11 +1,2 @@
-pub mod WrittenLaws
-pub mod ItemLaws
+pub mod Lemmas
 pub mod LetterLaws
-pub mod GrammarLaws
-pub mod TurnReading
-pub mod SetupReading
-pub mod ReadingBack
-pub mod Numbers
-pub mod Reading
-pub mod SetupRule
-pub mod WordLaws

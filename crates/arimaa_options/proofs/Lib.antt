@@ -1,1 +1,1 @@
-pub mod OptionForms
+pub mod Lemmas

@@ -1,3 +1,1 @@
-pub mod Content
-pub mod CountLaws
-pub mod ToldLaws
+pub mod Lemmas

@@ -10,7 +10,7 @@ use Rattle.arimaa_board.specs.Board.{same_color}
 use Rattle.arimaa_board.specs.declared.position.Position.{Position}
 use Rattle.arimaa_model.specs.Results.{next}
 use Rattle.arimaa_model.specs.Wins.{wins}
-use Rattle.arimaa_model.proofs.Members.{In}
+use Rattle.arimaa_model.proofs.Lemmas.Members.{In}
 use Rattle.arimaa_forced.specs.Search.{up_to, is_decisive, first_decisive, looked_at}
 use Rattle.arimaa_region.specs.Segments.{live_of}
 

@@ -12,14 +12,14 @@ use Rattle.arimaa_model.specs.DecidedPositions.{decided}
 use Rattle.arimaa_model.specs.Members.{Stands as IsIn}
 use Rattle.arimaa_model.specs.Results.{next}
 use Rattle.arimaa_model.specs.Wins.{wins}
-use Rattle.arimaa_model.proofs.Members.{In}
-use Rattle.arimaa_model.proofs.Positions.{In-stands}
+use Rattle.arimaa_model.proofs.Lemmas.Members.{In}
+use Rattle.arimaa_model.proofs.Lemmas.Positions.{In-stands}
 use Rattle.arimaa_forced.specs.Search.{is_decisive, looked_at}
-use Rattle.arimaa_forced.proofs.Midst.{Midst, midst-start, midst-here, midst-more, midst-decisive, midst-end}
+use Rattle.arimaa_forced.proofs.Lemmas.Midst.{Midst, midst-start, midst-here, midst-more, midst-decisive, midst-end}
 use Rattle.arimaa_jobs.specs.declared.view.SeatView.{SeatView}
 use Rattle.arimaa_jobs.specs.Rule.{Stands, WholeSees, view_after_draw, view_after_report, view_after_join, smallest_of, ends_above}
 use Rattle.arimaa_jobs.specs.Seats.{DrewNoJob, Reported, Looked}
-use Rattle.arimaa_jobs.proofs.SeatLaws.{stands-snoc, stands-first, stands-second, stands-last, stands-either, smallest-least, smallest-count, smallest-stands, drew-all}
+use Rattle.arimaa_jobs.proofs.Lemmas.SeatLaws.{stands-snoc, stands-first, stands-second, stands-last, stands-either, smallest-least, smallest-count, smallest-stands, drew-all}
 use Rattle.arimaa_pool.specs.declared.stop.Stop.{Stop}
 use Rattle.arimaa_pool.specs.declared.stopped_job.StoppedJob.{StoppedJob}
 use Rattle.arimaa_pool.specs.Depths.{depth_answer, gives_stop}

@@ -11,10 +11,10 @@ use Rattle.arimaa_model.specs.Results.{stands_in, with_new, first_occurrences}
 use Rattle.arimaa_model.specs.Wins.{wins}
 use Rattle.arimaa_model.specs.Strategies.{after_entry, met, first_met, strategy_of, entry_of}
 use Rattle.arimaa_forced.specs.Entries.{entry_with_marks}
-use Rattle.arimaa_model.proofs.Members.{In, In-flat_map, flat_map-In}
-use Rattle.arimaa_model.proofs.Positions.{In-stands, In-first, first-new}
-use Rattle.arimaa_model.proofs.Reaching.{first_occurrences-append}
-use Rattle.arimaa_model.proofs.Meeting.{closed, first-met}
+use Rattle.arimaa_model.proofs.Lemmas.Members.{In, In-flat_map, flat_map-In}
+use Rattle.arimaa_model.proofs.Lemmas.Positions.{In-stands, In-first, first-new}
+use Rattle.arimaa_model.proofs.Lemmas.Reaching.{first_occurrences-append}
+use Rattle.arimaa_model.proofs.Lemmas.Meeting.{closed, first-met}
 use Rattle.arimaa_pool.specs.Terms.{Terms}
 use Rattle.arimaa_pool.specs.Extraction.{IsQueue, written_entry}
 

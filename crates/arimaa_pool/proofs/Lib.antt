@@ -2,7 +2,7 @@ pub mod HandedOn
 pub mod Firsts
 pub mod RankBounds
 pub mod Levels
-pub mod EntryLaws
+pub mod Lemmas
 pub mod NeededQuestions
 pub mod VerdictLaws
 pub mod JobLaws

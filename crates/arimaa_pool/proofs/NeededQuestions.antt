@@ -5,10 +5,10 @@ use Rattle.arimaa_board.specs.declared.piece.Color.{Color}
 use Rattle.arimaa_board.specs.declared.position.Position.{Position}
 use Rattle.arimaa_model.specs.Ranks.{IsRank, rank_within}
 use Rattle.arimaa_model.specs.Strategies.{entry_of, met, strategy_of}
-use Rattle.arimaa_model.proofs.Members.{In}
-use Rattle.arimaa_model.proofs.Meeting.{entry-position, entry-rank}
-use Rattle.arimaa_model.proofs.Ranking.{wins-le}
-use Rattle.arimaa_model.proofs.Listed.{map-In}
+use Rattle.arimaa_model.proofs.Lemmas.Members.{In}
+use Rattle.arimaa_model.proofs.Lemmas.Meeting.{entry-position, entry-rank}
+use Rattle.arimaa_model.proofs.Lemmas.Ranking.{wins-le}
+use Rattle.arimaa_model.proofs.Lemmas.Listed.{map-In}
 use Rattle.arimaa_forced.specs.Needs.{IsAsked, InNeed, itself, deepening, playing}
 use Rattle.arimaa_pool.proofs.RankBounds.{rank-same}
 

@@ -7,12 +7,12 @@ use Rattle.arimaa_model.specs.DecidedPositions.{decided}
 use Rattle.arimaa_model.specs.Members.{Stands}
 use Rattle.arimaa_model.specs.Results.{next}
 use Rattle.arimaa_model.specs.Wins.{wins, is_nil}
-use Rattle.arimaa_model.proofs.WinsLaws.{wins-decided, wins-end}
+use Rattle.arimaa_model.proofs.Lemmas.WinsLaws.{wins-decided, wins-end}
 use Rattle.arimaa_forced.specs.Search.{looked_at, crowd, largest}
 use Rattle.arimaa_forced.specs.Needs.{IsAsked, itself, place}
-use Rattle.arimaa_forced.proofs.Deeper.{crowd-deeper}
+use Rattle.arimaa_forced.proofs.Lemmas.Deeper.{crowd-deeper}
 use Rattle.arimaa_model.specs.Ranks.{IsRank, rank_within}
-use Rattle.arimaa_model.proofs.Ranking.{wins-le, rank-is, rank-from, one-rank}
+use Rattle.arimaa_model.proofs.Lemmas.Ranking.{wins-le, rank-is, rank-from, one-rank}
 
 module _ (a : Color) (barred : List Position) (p : Position) where
   -- where it is not won below this depth, the rank is no lower

@@ -8,10 +8,10 @@ use Rattle.arimaa_model.specs.Strategies.{Planned, strategy_of}
 use Rattle.arimaa_forced.specs.Needs.{InNeed}
 use Rattle.arimaa_forced.specs.Play.{WinsEveryPlay}
 use Rattle.arimaa_forced.specs.Entries.{planned_of}
-use Rattle.arimaa_forced.proofs.Trees.{need-crowd}
-use Rattle.arimaa_forced.proofs.Plays.{accepted-plays}
-use Rattle.arimaa_forced.proofs.OwnStrategies.{made-accepted}
-use Rattle.arimaa_forced.proofs.NotedEntries.{planned-written}
+use Rattle.arimaa_forced.proofs.Lemmas.Trees.{need-crowd}
+use Rattle.arimaa_forced.proofs.Lemmas.Plays.{accepted-plays}
+use Rattle.arimaa_forced.proofs.Lemmas.OwnStrategies.{made-accepted}
+use Rattle.arimaa_forced.proofs.Lemmas.NotedEntries.{planned-written}
 use Rattle.arimaa_pool.specs.declared.settings.Settings.{Settings}
 use Rattle.arimaa_pool.specs.declared.stop.Stop.{Stop}
 use Rattle.arimaa_pool.specs.declared.failure.Failure.{Failure}

@@ -1,11 +1,7 @@
 pub mod LabelForms
-pub mod LineLaws
-pub mod LineGathering
+pub mod Lemmas
 pub mod LineAnswers
 pub mod LabelLaws
-pub mod FormLaws
 pub mod ReaderLaws
 pub mod RecordReading
-pub mod PlainLaws
 pub mod WrittenBack
-pub mod LabelOrder

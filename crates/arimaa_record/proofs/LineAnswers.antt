@@ -11,8 +11,8 @@ use Rattle.arimaa_outside.specs.declared.source.TheConstants.{INPUT_LIMIT}
 use Rattle.arimaa_record.specs.declared.line_reader.LineReader.{LineReader}
 use Rattle.arimaa_record.specs.Lines.{lines_of}
 use Rattle.arimaa_record.specs.LineReader.{Advances, Gathers, IsFirstLine, Takes, given_line, is_failure}
-use Rattle.arimaa_record.proofs.LineLaws.{filled_by_test, no_lines, only_line}
-use Rattle.arimaa_record.proofs.LineGathering.{fed_line}
+use Rattle.arimaa_record.proofs.Lemmas.LineLaws.{filled_by_test, no_lines, only_line}
+use Rattle.arimaa_record.proofs.Lemmas.LineGathering.{fed_line}
 
 -- a first line, whatever the source has left once bytes came
 first_of_known : (held came line rest : List ℕ) (left now : Option (List ℕ)) → left ≡ prepend_known came now

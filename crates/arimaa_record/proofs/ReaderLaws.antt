@@ -12,16 +12,16 @@ use Rattle.arimaa_notation.specs.Items.{items_of, IsFirstItem}
 use Rattle.arimaa_board.specs.declared.ending.Word.{Word}
 use Rattle.arimaa_notation.specs.Written.{text_of_entry, items_of_entries}
 use Rattle.arimaa_notation.specs.Grammar.{AreSteps, AreEntries, IsNamedItem, IsFirstBadEntry}
-use Rattle.arimaa_notation.proofs.ItemLaws.{items-first}
-use Rattle.arimaa_notation.proofs.SetupReading.{all_take}
-use Rattle.arimaa_notation.proofs.TurnReading as turns
+use Rattle.arimaa_notation.proofs.Lemmas.ItemLaws.{items-first}
+use Rattle.arimaa_notation.proofs.Lemmas.SetupReading.{all_take}
+use Rattle.arimaa_notation.proofs.Lemmas.TurnReading as turns
 use Rattle.arimaa_record.specs.declared.label.Label.{Label}
 use Rattle.arimaa_record.specs.declared.line.RecordLine.{RecordLine}
 use Rattle.arimaa_record.specs.declared.fault.LineFault.{LineFault}
 use Rattle.arimaa_record.specs.Label.{IsLabel}
 use Rattle.arimaa_record.specs.Grammar.{IsStartForm, IsLabelled, IsNoWord, IsNoOtherContent, IsContent, HasForm, IsLineReading, text_of_word, takeback_word}
 use Rattle.arimaa_record.proofs.LabelLaws.{label_first}
-use Rattle.arimaa_record.proofs.FormLaws.{head_same, same_first, same_labelled, one_reading}
+use Rattle.arimaa_record.proofs.Lemmas.FormLaws.{head_same, same_first, same_labelled, one_reading}
 
 -- the answer is this one exactly where the line is read as it
 pub exactly : (bytes : List ℕ) (r s : Result RecordLine LineFault) → IsLineReading bytes r → (r ≡ s) ↔ IsLineReading bytes s

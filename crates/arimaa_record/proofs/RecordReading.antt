@@ -9,8 +9,8 @@ use Rattle.arimaa_record.specs.declared.fault.RecordFault.TheVariants.{Line, Mem
 use Rattle.arimaa_record.specs.Lines.{lines_of}
 use Rattle.arimaa_record.specs.Grammar.{IsLineText, IsLineFault}
 use Rattle.arimaa_record.specs.Record.{AreLines, IsFirstFault, IsRecordReading}
-use Rattle.arimaa_record.proofs.FormLaws.{head_same, tail_same, one_reading}
-use Rattle.arimaa_record.proofs.LineLaws.{no_lines}
+use Rattle.arimaa_record.proofs.Lemmas.FormLaws.{head_same, tail_same, one_reading}
+use Rattle.arimaa_record.proofs.Lemmas.LineLaws.{no_lines}
 
 -- these lines have been read, and this text is left
 pub record Midst (bytes text : List ℕ) (ls : List RecordLine) (number : ℕ) : Type 0 where

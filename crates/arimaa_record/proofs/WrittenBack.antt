@@ -12,15 +12,15 @@ use Rattle.arimaa_board.specs.declared.turn.NotedStep.{NotedStep}
 use Rattle.arimaa_board.specs.declared.piece.Piece.{Piece}
 use Rattle.arimaa_board.specs.Setup.{Lineup, IsLineup}
 use Rattle.arimaa_board.specs.Text.{places_of, text_of}
-use Rattle.arimaa_board.proofs.ReadingLaws.{read_IsBoardText}
-use Rattle.arimaa_board.proofs.TextLaws.{reading_of-text_of}
+use Rattle.arimaa_board.proofs.Lemmas.ReadingLaws.{read_IsBoardText}
+use Rattle.arimaa_board.proofs.Lemmas.TextLaws.{reading_of-text_of}
 use Rattle.arimaa_board.specs.declared.ending.Word.{Word}
 use Rattle.arimaa_board.specs.declared.ending.Word.TheVariants.{Resigns, Time}
 use Rattle.arimaa_notation.specs.Items.{is_blank, items_of}
 use Rattle.arimaa_notation.specs.Written.{items_of_turn, items_of_entries, joined, text_of_turn, text_of_setup}
 use Rattle.arimaa_notation.specs.Grammar.{IsTurnText, IsSetupText, IsTurnReading, IsSetupReading}
-use Rattle.arimaa_notation.proofs.WrittenLaws.{size-lineup}
-use Rattle.arimaa_notation.proofs.ItemLaws.{items-item, items-blank, no_items}
+use Rattle.arimaa_notation.proofs.Lemmas.WrittenLaws.{size-lineup}
+use Rattle.arimaa_notation.proofs.Lemmas.ItemLaws.{items-item, items-blank, no_items}
 use Rattle.arimaa_record.specs.declared.label.Label.{Label}
 use Rattle.arimaa_record.specs.declared.line.RecordLine.{RecordLine}
 use Rattle.arimaa_record.specs.declared.line.RecordLine.TheVariants as line
@@ -30,8 +30,8 @@ use Rattle.arimaa_record.specs.Lines.{lines_of}
 use Rattle.arimaa_record.specs.Grammar.{IsStartForm, IsLabelled, text_of_word, takeback_word, IsLineText}
 use Rattle.arimaa_record.specs.Record.{AreLines}
 use Rattle.arimaa_record.specs.Written.{IsInRange, IsWritable, spaced, text_of_line, ended_line, text_of_record}
-use Rattle.arimaa_record.proofs.LineLaws.{no_lines}
-use Rattle.arimaa_record.proofs.PlainLaws.{solid_seen, first_plain, label_seen, label_filled, line_plain}
+use Rattle.arimaa_record.proofs.Lemmas.LineLaws.{no_lines}
+use Rattle.arimaa_record.proofs.Lemmas.PlainLaws.{solid_seen, first_plain, label_seen, label_filled, line_plain}
 
 side_back : (side : Color) → side_of_letter (letter_of_side side) ≡ Some side
 side_back Gold = refl

@@ -6,8 +6,8 @@ use Rattle.arimaa_board.specs.declared.position.Position.{Position}
 use Rattle.arimaa_model.specs.Results.{next}
 use Rattle.arimaa_model.specs.Strategies.{first_turn}
 use Rattle.arimaa_model.specs.Wins.{wins}
-use Rattle.arimaa_model.proofs.FirstTurns.{passing-turn}
-use Rattle.arimaa_model.proofs.Members.{find-some}
+use Rattle.arimaa_model.proofs.Lemmas.FirstTurns.{passing-turn}
+use Rattle.arimaa_model.proofs.Lemmas.Members.{find-some}
 use Rattle.arimaa_refute.specs.OwnEscapes.{IsUnwon, evades, first_evasion}
 use Rattle.arimaa_refute.specs.Refutations.{first_unwon}
 use Rattle.arimaa_refute.proofs.OwnEscapesHold.{evasion}

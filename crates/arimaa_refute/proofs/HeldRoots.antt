@@ -9,11 +9,11 @@ use Rattle.arimaa_board.specs.declared.ending.Ending.{Ending}
 use Rattle.arimaa_model.specs.DecidedPositions.{decided}
 use Rattle.arimaa_model.specs.Results.{next}
 use Rattle.arimaa_model.specs.Wins.{is_nil, wins, wins_among}
-use Rattle.arimaa_model.proofs.WinsLaws.{wins-decided, wins-stuck, wins-end, wins-deeper}
-use Rattle.arimaa_model.proofs.Ranking.{by-cases, some-length, wins-le}
-use Rattle.arimaa_model.proofs.Members.{In, all-In, any-In}
-use Rattle.arimaa_model.proofs.Positions.{same_position-Decides, same_color-Decides, stands-In, results-side, next-results}
-use Rattle.arimaa_model.proofs.Meeting.{side-own}
+use Rattle.arimaa_model.proofs.Lemmas.WinsLaws.{wins-decided, wins-stuck, wins-end, wins-deeper}
+use Rattle.arimaa_model.proofs.Lemmas.Ranking.{by-cases, some-length, wins-le}
+use Rattle.arimaa_model.proofs.Lemmas.Members.{In, all-In, any-In}
+use Rattle.arimaa_model.proofs.Lemmas.Positions.{same_position-Decides, same_color-Decides, stands-In, results-side, next-results}
+use Rattle.arimaa_model.proofs.Lemmas.Meeting.{side-own}
 use Rattle.arimaa_refute.specs.declared.escape.Escape.{Escape}
 use Rattle.arimaa_refute.specs.Escapes.{is_escape_of, has_escape, can_wait, safe_for, is_safe, held_for, is_held, is_root_held, IsGoodEscape, AreGoodEscapes, Holds}
 

@@ -8,14 +8,14 @@ use Rattle.arimaa_model.specs.DecidedPositions.{decided}
 use Rattle.arimaa_model.specs.Members.{Stands}
 use Rattle.arimaa_model.specs.Results.{stands_in, first_occurrences, result_of, next}
 use Rattle.arimaa_model.specs.Strategies.{open_after}
-use Rattle.arimaa_model.proofs.Members.{In, In-flat_map}
-use Rattle.arimaa_model.proofs.Meeting.{ready-wants}
-use Rattle.arimaa_model.proofs.Positions.{In-stands}
-use Rattle.arimaa_model.proofs.Reaching.{first_occurrences-append}
+use Rattle.arimaa_model.proofs.Lemmas.Members.{In, In-flat_map}
+use Rattle.arimaa_model.proofs.Lemmas.Meeting.{ready-wants}
+use Rattle.arimaa_model.proofs.Lemmas.Positions.{In-stands}
+use Rattle.arimaa_model.proofs.Lemmas.Reaching.{first_occurrences-append}
 use Rattle.arimaa_forced.specs.Needs.InTree.{later as tree-later}
 use Rattle.arimaa_forced.specs.Search.{crowd, largest}
-use Rattle.arimaa_forced.proofs.Deeper.{crowd-deeper}
-use Rattle.arimaa_strategy.proofs.CheckLaws.{some_same}
+use Rattle.arimaa_forced.proofs.Lemmas.Deeper.{crowd-deeper}
+use Rattle.arimaa_strategy.proofs.Lemmas.CheckLaws.{some_same}
 use Rattle.arimaa_refute.specs.declared.escape.Escape.{Escape}
 use Rattle.arimaa_refute.specs.OwnEscapes.{IsUnwon, first_evasion, escape_at, after_escape, fresh, escapes_from}
 use Rattle.arimaa_refute.specs.Refutations.{Terms, IsBelow, WantsEscape, met_after}

@@ -1,9 +1,8 @@
-pub mod EscapeReading
+pub mod Lemmas
 pub mod HeldRoots
 pub mod OwnEscapesHold
 pub mod PlaceLaws
 pub mod Waiting
-pub mod FlawLaws
 pub mod VerifyLaws
 pub mod FirstEvasions
 pub mod Levels

@@ -12,13 +12,13 @@ use Rattle.arimaa_model.specs.DecidedPositions.{decided}
 use Rattle.arimaa_model.specs.Results.{stands_in, result_of, turn_lists, next}
 use Rattle.arimaa_model.specs.Wins.{wins, wins_among}
 use Rattle.arimaa_model.specs.Strategies.{Planned, open_replies, open_after}
-use Rattle.arimaa_model.proofs.WinsLaws.{wins-decided, wins-stuck, wins-deeper, is_nil-true}
-use Rattle.arimaa_model.proofs.Ranking.{by-cases, some-length}
-use Rattle.arimaa_model.proofs.Members.{In, In-append, In-left, In-right, In-filter, filter-In, In-any, In-all, find-is, find-some, In-flat_map, flat_map-In}
-use Rattle.arimaa_model.proofs.Positions.{same_position-same, same_color-Decides, stands-In, In-stands, results-turn, results-side, next-results}
-use Rattle.arimaa_model.proofs.Meeting.{side-own, side-other, ready-wants, wants-ready, is_none-None}
+use Rattle.arimaa_model.proofs.Lemmas.WinsLaws.{wins-decided, wins-stuck, wins-deeper, is_nil-true}
+use Rattle.arimaa_model.proofs.Lemmas.Ranking.{by-cases, some-length}
+use Rattle.arimaa_model.proofs.Lemmas.Members.{In, In-append, In-left, In-right, In-filter, filter-In, In-any, In-all, find-is, find-some, In-flat_map, flat_map-In}
+use Rattle.arimaa_model.proofs.Lemmas.Positions.{same_position-same, same_color-Decides, stands-In, In-stands, results-turn, results-side, next-results}
+use Rattle.arimaa_model.proofs.Lemmas.Meeting.{side-own, side-other, ready-wants, wants-ready, is_none-None}
 use Rattle.arimaa_forced.specs.Entries.{planned_of, has_right_marks, entry_with_marks}
-use Rattle.arimaa_forced.proofs.NotedEntries.{planned-written, written-marked}
+use Rattle.arimaa_forced.proofs.Lemmas.NotedEntries.{planned-written, written-marked}
 use Rattle.arimaa_refute.specs.declared.escape.Escape.{Escape}
 use Rattle.arimaa_refute.specs.Escapes.{is_escape_of, has_escape, can_wait, safe_for, is_safe, are_safe, held_for, is_held, IsGoodEscape, AreGoodEscapes, Holds}
 use Rattle.arimaa_refute.specs.OwnEscapes.{IsUnwon as IsUnwonIn, evades, first_evasion, escape_at, after_escape, fresh, escapes_from, escapes_of}

@@ -9,22 +9,22 @@ use Rattle.std.proofs.lemmas.Bool.Decides.{nat_tests, Decides-like, same_from_de
 use Rattle.arimaa_board.specs.declared.position.Position.{Position}
 use Rattle.arimaa_model.specs.Results.{same_position, stands_in}
 use Rattle.arimaa_model.specs.Strategies.{find_entry}
-use Rattle.arimaa_model.proofs.Positions.{same_position-Decides}
+use Rattle.arimaa_model.proofs.Lemmas.Positions.{same_position-Decides}
 use Rattle.arimaa_forced.specs.declared.entry.Entry.{Entry}
 use Rattle.arimaa_forced.specs.Entries.{planned_of}
 use Rattle.arimaa_history.specs.declared.key.Key.{Key}
 use Rattle.arimaa_history.specs.Keys.{key_of, position_at}
 use Rattle.arimaa_history.specs.Counts.{same_key}
-use Rattle.arimaa_history.proofs.KeyTests.{keys_same}
+use Rattle.arimaa_history.proofs.Lemmas.KeyTests.{keys_same}
 use Rattle.arimaa_strategy.specs.Entries.{plan_of, place_of}
-use Rattle.arimaa_strategy.proofs.PlaceLaws.{is_before, found_before, place_more}
+use Rattle.arimaa_strategy.proofs.Lemmas.PlaceLaws.{is_before, found_before, place_more}
 use Rattle.arimaa_refute.specs.declared.escape.Escape.{Escape}
 use Rattle.arimaa_refute.specs.declared.place.Place.{Place}
 use Rattle.arimaa_refute.specs.Escapes.{entry_of, has_escape}
 use Rattle.arimaa_refute.specs.Flaws.{positions_of}
 use Rattle.arimaa_refute.specs.Places.{depth_of, place_with, place_in, AreKept}
-use Rattle.arimaa_refute.proofs.EscapeReading.{map-more}
-use Rattle.arimaa_record.proofs.PlainLaws.{all_more}
+use Rattle.arimaa_refute.proofs.Lemmas.EscapeReading.{map-more}
+use Rattle.arimaa_record.proofs.Lemmas.PlainLaws.{all_more}
 
 -- ---- among the first ones
 

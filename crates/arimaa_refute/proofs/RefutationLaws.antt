@@ -11,15 +11,15 @@ use Rattle.arimaa_model.specs.Members.{Stands}
 use Rattle.arimaa_model.specs.Results.{first_occurrences, next}
 use Rattle.arimaa_model.specs.Wins.{wins}
 use Rattle.arimaa_model.specs.Strategies.{open_replies}
-use Rattle.arimaa_model.proofs.Members.{In, In-filter}
-use Rattle.arimaa_model.proofs.Meeting.{ready-wants, is_none-None}
-use Rattle.arimaa_model.proofs.Positions.{In-stands}
+use Rattle.arimaa_model.proofs.Lemmas.Members.{In, In-filter}
+use Rattle.arimaa_model.proofs.Lemmas.Meeting.{ready-wants, is_none-None}
+use Rattle.arimaa_model.proofs.Lemmas.Positions.{In-stands}
 use Rattle.arimaa_forced.specs.Needs.{InTree}
 use Rattle.arimaa_forced.specs.Needs.InTree.{root as tree-root, later as tree-later}
 use Rattle.arimaa_forced.specs.Search.{size, crowd}
-use Rattle.arimaa_forced.proofs.Trees.{tree-size, tree-crowd, cost-size}
+use Rattle.arimaa_forced.proofs.Lemmas.Trees.{tree-size, tree-crowd, cost-size}
 use Rattle.arimaa_region.specs.Segments.{live_of}
-use Rattle.arimaa_search.proofs.Lists.{first_left}
+use Rattle.arimaa_search.proofs.Lemmas.Lists.{first_left}
 use Rattle.arimaa_refute.specs.declared.escape.Escape.{Escape}
 use Rattle.arimaa_refute.specs.declared.refute_answer.Refuted.{Refuted}
 use Rattle.arimaa_refute.specs.declared.refute_answer.Refuted.TheVariants as refuted

@@ -12,7 +12,7 @@ use Rattle.arimaa_board.specs.declared.ending.Ending.{Ending}
 use Rattle.arimaa_model.specs.DecidedPositions.{decided}
 use Rattle.arimaa_model.specs.Results.{stands_in, next}
 use Rattle.arimaa_model.specs.Wins.{wins}
-use Rattle.arimaa_model.proofs.Positions.{same_color-Decides}
+use Rattle.arimaa_model.proofs.Lemmas.Positions.{same_color-Decides}
 use Rattle.arimaa_strategy.specs.Faults.{led_to}
 use Rattle.arimaa_refute.specs.declared.escape.Escape.{Escape}
 use Rattle.arimaa_refute.specs.declared.verify_answer.Flaw.{Flaw}
@@ -30,7 +30,7 @@ use Rattle.arimaa_refute.specs.Checks.{IsFrom, IfAccepted, IfRefused, IfCrowded,
 use Rattle.arimaa_refute.specs.Checks.AreAsked.{escape as asked_escape, root as asked_root}
 use Rattle.arimaa_refute.proofs.HeldRoots.{held-lost}
 use Rattle.arimaa_refute.proofs.OwnEscapesHold.{own-holds}
-use Rattle.arimaa_refute.proofs.FlawLaws.{all-good, all-flawless}
+use Rattle.arimaa_refute.proofs.Lemmas.FlawLaws.{all-good, all-flawless}
 
 -- ---- looks
 

@@ -3,7 +3,7 @@ use Rattle.std.proofs.Common.{◌≡◌, List, [], ◌∷◌, ◌++◌, refl, sy
 use Rattle.std.specs.List.{flat_map}
 use Rattle.arimaa_board.specs.declared.position.Position.{Position}
 use Rattle.arimaa_board.specs.declared.position.Step.{Step}
-use Rattle.arimaa_model.proofs.Lists.{flat_map-agree, flat_map-map}
+use Rattle.arimaa_model.proofs.Lemmas.Lists.{flat_map-agree, flat_map-map}
 use Rattle.arimaa_step.specs.declared.accepted_steps.AcceptedSteps.{AcceptedSteps}
 use Rattle.arimaa_step.specs.AcceptedSteps.{AreEnding}
 use Rattle.arimaa_step.specs.declared.state.TurnState.{TurnState}

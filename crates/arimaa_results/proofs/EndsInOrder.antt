@@ -11,8 +11,8 @@ use Rattle.arimaa_board.specs.Board.{at}
 use Rattle.arimaa_board.specs.Square.{directions}
 use Rattle.arimaa_model.specs.Plain.{steps_of}
 use Rattle.arimaa_model.specs.Results.{step_of}
-use Rattle.arimaa_model.proofs.Lists.{flat_map-flat_map, flat_map-map}
-use Rattle.arimaa_model.proofs.Reaching.{candidates-is}
+use Rattle.arimaa_model.proofs.Lemmas.Lists.{flat_map-flat_map, flat_map-map}
+use Rattle.arimaa_model.proofs.Lemmas.Reaching.{candidates-is}
 use Rattle.arimaa_step.specs.declared.accepted_steps.AcceptedSteps.{AcceptedSteps}
 use Rattle.arimaa_step.specs.declared.state.TurnState.{TurnState}
 use Rattle.arimaa_step.specs.AcceptedSteps.{ends_by, ends_content, mask_towards}

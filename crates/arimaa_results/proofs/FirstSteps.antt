@@ -8,8 +8,8 @@ use Rattle.std.proofs.lemmas.Nat.Bits.{bit_at-lt, bit_at_or}
 use Rattle.arimaa_board.specs.declared.square.Dir.{Dir}
 use Rattle.arimaa_board.specs.declared.square.Dir.TheVariants.{North, East, South, West}
 use Rattle.arimaa_board.specs.Masks.{IsMaskOf, is_in, first_in}
-use Rattle.arimaa_board.proofs.Friends.{is_one}
-use Rattle.arimaa_board.proofs.Finds.{all_fail}
+use Rattle.arimaa_board.proofs.Lemmas.Friends.{is_one}
+use Rattle.arimaa_board.proofs.Lemmas.Finds.{all_fail}
 use Rattle.arimaa_step.specs.declared.accepted_steps.AcceptedSteps.{AcceptedSteps}
 use Rattle.arimaa_results.specs.NextStates.{has_step, same_dir, IsFirstDirection, IsTaken}
 

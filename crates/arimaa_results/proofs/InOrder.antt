@@ -10,17 +10,17 @@ use Rattle.arimaa_board.specs.Board.{settle}
 use Rattle.arimaa_model.specs.Backward.{after_back}
 use Rattle.arimaa_model.specs.declared.fault.TurnFault.{TurnFault}
 use Rattle.arimaa_model.specs.Plain.{candidates}
-use Rattle.arimaa_model.proofs.Lists.{flat_map-append}
-use Rattle.arimaa_model.proofs.Members.{In, In-append, In-left, In-right, any-In, flat_map-In, In-flat_map}
-use Rattle.arimaa_model.proofs.Pushers.{after_settled}
+use Rattle.arimaa_model.proofs.Lemmas.Lists.{flat_map-append}
+use Rattle.arimaa_model.proofs.Lemmas.Members.{In, In-append, In-left, In-right, any-In, flat_map-In, In-flat_map}
+use Rattle.arimaa_model.proofs.Lemmas.Pushers.{after_settled}
 use Rattle.arimaa_region.specs.Same.{same_words, same_words-Decides, firsts, with_new}
 use Rattle.arimaa_step.specs.declared.state.TurnState.{TurnState}
 use Rattle.arimaa_step.specs.Next.{next_answer, next_state}
 use Rattle.arimaa_step.specs.State.{state_of}
 use Rattle.arimaa_step.specs.StateWords.{state_planes, state_in_planes}
-use Rattle.arimaa_step.proofs.LeavingOut.{IsLess, AreLess, less_none, left_out}
-use Rattle.arimaa_step.proofs.StepOrder.{Rising, candidates-rising, stands_before}
-use Rattle.arimaa_step.proofs.FourthSteps.{with_steps, all_pairs}
+use Rattle.arimaa_step.proofs.Lemmas.LeavingOut.{IsLess, AreLess, less_none, left_out}
+use Rattle.arimaa_step.proofs.Lemmas.StepOrder.{Rising, candidates-rising, stands_before}
+use Rattle.arimaa_step.proofs.Lemmas.FourthSteps.{with_steps, all_pairs}
 use Rattle.arimaa_results.specs.Ahead.{states_by, next_states}
 use Rattle.arimaa_results.specs.LastSteps.{is_next, left_after, brings_first, left_of_kept, brings_last}
 use Rattle.arimaa_results.specs.Layers.{keeps, planes_after, layer}

@@ -13,15 +13,15 @@ use Rattle.arimaa_board.specs.BoardLaws.{at-board_of}
 use Rattle.arimaa_board.specs.Masks.{is_in}
 use Rattle.arimaa_board.specs.Planes.{code_bit, plane_of}
 use Rattle.arimaa_board.specs.Words.{code_of_content}
-use Rattle.arimaa_board.proofs.PlanesBack.{bit_at-with_bits}
+use Rattle.arimaa_board.proofs.Lemmas.PlanesBack.{bit_at-with_bits}
 use Rattle.arimaa_model.specs.Moves.{target, is_free, fits, after}
-use Rattle.arimaa_model.proofs.Pushers.{after_is, free_square}
-use Rattle.arimaa_model.proofs.Shades.{across}
+use Rattle.arimaa_model.proofs.Lemmas.Pushers.{after_is, free_square}
+use Rattle.arimaa_model.proofs.Lemmas.Shades.{across}
 use Rattle.arimaa_region.specs.Same.{same_words, same_words-Decides}
 use Rattle.arimaa_step.specs.declared.state.TurnState.{TurnState}
 use Rattle.arimaa_step.specs.Next.{next_answer, next_state}
 use Rattle.arimaa_step.specs.StateWords.{state_planes}
-use Rattle.arimaa_step.proofs.AnswerLaws.{ok_parts, moves_fit}
+use Rattle.arimaa_step.proofs.Lemmas.AnswerLaws.{ok_parts, moves_fit}
 use Rattle.arimaa_results.specs.LastSteps.{is_next}
 use Rattle.arimaa_results.proofs.Kept.{kept_there}
 

@@ -2,7 +2,7 @@
 use Rattle.std.proofs.Common.{◌≡◌, List, [], ◌∷◌, ◌++◌, Bool, true, false, cond, inl, inr, refl, sym, ◌∙◌, subst, append_assoc, append-nil, true≢false}
 use Rattle.std.specs.Bool.{Decides}
 use Rattle.std.specs.List.{list_any}
-use Rattle.arimaa_model.proofs.Members.{In, In-left, In-any}
+use Rattle.arimaa_model.proofs.Lemmas.Members.{In, In-left, In-any}
 use Rattle.arimaa_region.specs.Same.{firsts}
 
 module _ {X : Type 0} (same : X → X → Bool) (decides : (x y : X) → Decides (same x y) (x ≡ y)) where

@@ -8,18 +8,18 @@ use Rattle.arimaa_board.specs.Board.{settle}
 use Rattle.arimaa_model.specs.declared.fault.TurnFault.{TurnFault}
 use Rattle.arimaa_model.specs.Plain.{candidates}
 use Rattle.arimaa_model.specs.Results.{same_position}
-use Rattle.arimaa_model.proofs.Lists.{flat_map-agree, flat_map-flat_map}
-use Rattle.arimaa_model.proofs.Members.{In, flat_map-In}
-use Rattle.arimaa_model.proofs.Positions.{same_position-Decides}
+use Rattle.arimaa_model.proofs.Lemmas.Lists.{flat_map-agree, flat_map-flat_map}
+use Rattle.arimaa_model.proofs.Lemmas.Members.{In, flat_map-In}
+use Rattle.arimaa_model.proofs.Lemmas.Positions.{same_position-Decides}
 use Rattle.arimaa_region.specs.Same.{same_words, same_words-Decides, firsts}
 use Rattle.arimaa_step.specs.declared.state.TurnState.{TurnState}
 use Rattle.arimaa_step.specs.CommutingSteps.{comes_turned}
 use Rattle.arimaa_step.specs.Next.{next_answer, next_state, state_end}
 use Rattle.arimaa_step.specs.State.{state_of}
 use Rattle.arimaa_step.specs.StateWords.{state_planes, state_in_planes}
-use Rattle.arimaa_step.proofs.FourthSteps.{ends, fourth_less}
-use Rattle.arimaa_step.proofs.LeavingOut.{IsLess, less_parts}
-use Rattle.arimaa_step.proofs.ThirdSteps.{IsTurned, is_turned}
+use Rattle.arimaa_step.proofs.Lemmas.FourthSteps.{ends, fourth_less}
+use Rattle.arimaa_step.proofs.Lemmas.LeavingOut.{IsLess, less_parts}
+use Rattle.arimaa_step.proofs.Lemmas.ThirdSteps.{IsTurned, is_turned}
 use Rattle.arimaa_results.specs.Ahead.{states_by, next_states, given_by, brings_now, brings}
 use Rattle.arimaa_results.specs.LastSteps.{gives_in_order, next_in_order, brings_in_order, brings_first, brings_last}
 use Rattle.arimaa_results.specs.Layers.{keeps, planes_after, layer, brought_from}

@@ -18,15 +18,15 @@ use Rattle.arimaa_model.specs.declared.fault.StepFault.{StepFault}
 use Rattle.arimaa_model.specs.Faults.{unless}
 use Rattle.arimaa_model.specs.Plain.{candidates, steps_of}
 use Rattle.arimaa_model.specs.Results.{step_of}
-use Rattle.arimaa_model.proofs.Lists.{flat_map-agree, flat_map-flat_map, flat_map-map}
-use Rattle.arimaa_model.proofs.Reaching.{candidates-is}
+use Rattle.arimaa_model.proofs.Lemmas.Lists.{flat_map-agree, flat_map-flat_map, flat_map-map}
+use Rattle.arimaa_model.proofs.Lemmas.Reaching.{candidates-is}
 use Rattle.arimaa_step.specs.declared.accepted_steps.AcceptedSteps.{AcceptedSteps}
 use Rattle.arimaa_step.specs.declared.state.StepDone.{StepDone}
 use Rattle.arimaa_step.specs.declared.state.TurnState.{TurnState}
 use Rattle.arimaa_step.specs.AcceptedSteps.{accepts, accepts_content, ends_by, ends_content, AreAccepted, AreEnding, mask_towards}
 use Rattle.arimaa_step.specs.Next.{next_answer, next_fault, next_state, cuts_next, state_end}
 use Rattle.arimaa_step.specs.State.{trap_first}
-use Rattle.arimaa_step.proofs.AcceptedLaws.{and_false}
+use Rattle.arimaa_step.proofs.Lemmas.AcceptedLaws.{and_false}
 use Rattle.arimaa_model.specs.Marks.{removed_by}
 use Rattle.arimaa_results.specs.Ahead.{made, states_by, next_states, value_of, allowed, given_by}
 use Rattle.arimaa_results.specs.NextStates.{AreAllEnding, ends_of, pairs_by, next_pairs, pairs_of_content, has_step, pairs_from, pairs_left, AreAllAccepted, same_dir, IsFirstDirection, IsTaken}

@@ -7,14 +7,14 @@ use Rattle.arimaa_board.specs.declared.position.Position.{Position}
 use Rattle.arimaa_board.specs.declared.position.Step.{Step}
 use Rattle.arimaa_model.specs.Results.{first_occurrences, position_of, results, result_of, turn_lists, next}
 use Rattle.arimaa_model.specs.Turns.{after_all, is_turn}
-use Rattle.arimaa_model.proofs.RelatedTurns.{turn-Decides}
+use Rattle.arimaa_model.proofs.Lemmas.RelatedTurns.{turn-Decides}
 use Rattle.arimaa_step.specs.Future.{IsTurnTo}
 use Rattle.arimaa_region.specs.Same.{same_position, same_position-Decides, firsts}
 use Rattle.arimaa_results.specs.Conditions.{brings_passing, first_passing}
-use Rattle.arimaa_results.proofs.Firsts.{filter-firsts}
-use Rattle.arimaa_results.proofs.Found.{filter-any}
+use Rattle.arimaa_results.proofs.Lemmas.Firsts.{filter-firsts}
+use Rattle.arimaa_results.proofs.Lemmas.Found.{filter-any}
 use Rattle.arimaa_results.specs.Ahead.{allowed}
-use Rattle.arimaa_results.proofs.Given.{head_of}
+use Rattle.arimaa_results.proofs.Lemmas.Given.{head_of}
 
 pub begins : {X : Type 0} (q : X) (xs : List X) → head_of xs ≡ Some q → xs ≡ q ∷ drop 1 xs
 begins q [] e = absurd (cc)

@@ -7,7 +7,7 @@ use Rattle.arimaa_board.specs.declared.position.Position.{Position}
 use Rattle.arimaa_model.specs.DecidedPositions.{decided}
 use Rattle.arimaa_model.specs.Results.{next}
 use Rattle.arimaa_model.specs.Wins.{is_nil, wins}
-use Rattle.arimaa_model.proofs.WinsLaws.{wins-stuck, wins-end}
+use Rattle.arimaa_model.proofs.Lemmas.WinsLaws.{wins-stuck, wins-end}
 use Rattle.arimaa_line.specs.declared.bounds.Bounds.{Bounds}
 use Rattle.arimaa_line.specs.declared.line.Line.{Line}
 use Rattle.arimaa_line.specs.Lines.{IsLineOf}

@@ -1,6 +1,6 @@
 pub mod FirstReplies
 pub mod Leaves
-pub mod Lists
+pub mod Lemmas
 pub mod Looking
 pub mod Tracing
 pub mod WonPositions

@@ -7,7 +7,7 @@ use Rattle.arimaa_board.specs.declared.position.Position.{Position}
 use Rattle.arimaa_model.specs.DecidedPositions.{decided}
 use Rattle.arimaa_model.specs.Results.{next}
 use Rattle.arimaa_forced.specs.Search.{is_decisive, cost}
-use Rattle.arimaa_forced.proofs.Midst.{Midst, midst-start, midst-more, midst-decisive, midst-end, midst-paid, midst-all_paid, midst-dear, midst-wide}
+use Rattle.arimaa_forced.proofs.Lemmas.Midst.{Midst, midst-start, midst-more, midst-decisive, midst-end, midst-paid, midst-all_paid, midst-dear, midst-wide}
 use Rattle.arimaa_search.specs.declared.stop.Stop.{Stop}
 use Rattle.arimaa_search.specs.declared.stop.Stop.TheVariants as stop
 use Rattle.arimaa_search.specs.PaidAnswers.{IsPaid, Answered}

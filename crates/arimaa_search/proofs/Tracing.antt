@@ -3,8 +3,8 @@ use Rattle.std.proofs.Common.{◌≡◌, ℕ, List, [], ◌∷◌, drop, true, f
 use Rattle.arimaa_board.specs.declared.piece.Color.{Color}
 use Rattle.arimaa_board.specs.declared.position.Position.{Position}
 use Rattle.arimaa_model.specs.Results.{next}
-use Rattle.arimaa_model.proofs.Members.{In}
-use Rattle.arimaa_model.proofs.Positions.{stands-In}
+use Rattle.arimaa_model.proofs.Lemmas.Members.{In}
+use Rattle.arimaa_model.proofs.Lemmas.Positions.{stands-In}
 use Rattle.arimaa_forced.specs.Search.{up_to, is_decisive, looked_at}
 use Rattle.arimaa_line.specs.Index.{place_of}
 use Rattle.arimaa_table.specs.Passes.{NoFewer}

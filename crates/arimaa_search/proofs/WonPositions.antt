@@ -11,7 +11,7 @@ use Rattle.arimaa_board.specs.declared.ending.Ending.{Ending}
 use Rattle.arimaa_model.specs.DecidedPositions.{decided}
 use Rattle.arimaa_model.specs.Results.{next}
 use Rattle.arimaa_model.specs.Wins.{wins}
-use Rattle.arimaa_model.proofs.WinsLaws.{wins-decided}
+use Rattle.arimaa_model.proofs.Lemmas.WinsLaws.{wins-decided}
 use Rattle.arimaa_forced.specs.Search.{is_decisive}
 use Rattle.arimaa_results.specs.ListsToWin.{is_won_by}
 use Rattle.arimaa_search.specs.Traces.{GoesPast}

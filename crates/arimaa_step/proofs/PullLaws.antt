@@ -13,7 +13,7 @@ use Rattle.arimaa_board.specs.Board.{at, holds, settle, kept}
 use Rattle.arimaa_board.specs.BoardLaws.{length-board_of}
 use Rattle.arimaa_model.specs.Frozen.{beats, passes_at}
 use Rattle.arimaa_model.specs.Moves.{target, is_free, fits, after, enters, may_pull}
-use Rattle.arimaa_model.proofs.Pushers.{after_settled, held_piece, on_board}
+use Rattle.arimaa_model.proofs.Lemmas.Pushers.{after_settled, held_piece, on_board}
 
 step_into : (x : Bool) (k n : ℕ) → enters n (cond x (Some k) None) ≡ true → (x ≡ true) × (k ≡ n)
 step_into true k n h = (refl, eqb-true k n h)

@@ -15,9 +15,9 @@ use Rattle.arimaa_board.specs.BoardLaws.{same_boards, length-board_of, at-put, a
 use Rattle.arimaa_board.specs.Masks.{passes, is_beside}
 use Rattle.arimaa_model.specs.Frozen.{is_frozen, is_held, beats, passes_at}
 use Rattle.arimaa_model.specs.Moves.{target, enters, fits, is_free, after, is_own, goes_back, is_single}
-use Rattle.arimaa_model.proofs.Shades.{across}
-use Rattle.arimaa_model.proofs.Removals.{way_back}
-use Rattle.arimaa_model.proofs.Pushers.{settle_twice, after_is, free_square, after_settled, on_board, held_piece, clear, beside_traps, list_any-agree, at-settle}
+use Rattle.arimaa_model.proofs.Lemmas.Shades.{across}
+use Rattle.arimaa_model.proofs.Lemmas.Removals.{way_back}
+use Rattle.arimaa_model.proofs.Lemmas.Pushers.{settle_twice, after_is, free_square, after_settled, on_board, held_piece, clear, beside_traps, list_any-agree, at-settle}
 use Rattle.arimaa_step.specs.CommutingSteps.{is_of, is_close, is_trap_of, in_zone, commutes, MayBeTurned}
 
 -- ---- tests of the four directions

@@ -16,8 +16,8 @@ use Rattle.arimaa_board.specs.Square.{next_square, is_trap}
 use Rattle.arimaa_board.specs.Masks.{bit_of, IsMaskOf, passes, is_beside}
 use Rattle.arimaa_model.specs.Moves.{target, enters}
 use Rattle.arimaa_model.specs.Results.{step_of}
-use Rattle.arimaa_board.proofs.Beside.{upto_all}
-use Rattle.arimaa_board.proofs.MaskLaws.{and_mask, or_mask, not_mask, like_mask}
+use Rattle.arimaa_board.proofs.Lemmas.Beside.{upto_all}
+use Rattle.arimaa_board.proofs.Lemmas.MaskLaws.{and_mask, or_mask, not_mask, like_mask}
 use Rattle.std.proofs.lemmas.Bool.{eqb-true}
 use Rattle.std.proofs.Math.Bool.{and-true, and_comm}
 use Rattle.arimaa_step.specs.CommutingSteps.{is_of, is_close, is_trap_of, in_zone, commutes, commutes_before, moves_calmly, goes_calmly, AreEarlier, AreOthers, AreAcceptedInOrder, AreEndingInOrder}

@@ -1,10 +1,4 @@
-pub mod EntryLines
-pub mod TextReading
+pub mod Lemmas
 pub mod PlainText
 pub mod ReadingBack
-pub mod PlaceLaws
-pub mod Looks
 pub mod Ranks
-pub mod FaultLaws
-pub mod CheckLaws
-pub mod NotedTurns

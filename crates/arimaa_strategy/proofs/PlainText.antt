@@ -3,7 +3,7 @@ use Rattle.std.proofs.Common.{ℕ, ◌<◌, ◌^◌, ◌∷◌, ◌++◌, arith}
 use Rattle.std.specs.Fmt.{decimal}
 use Rattle.arimaa_board.specs.Text.{text_of}
 use Rattle.arimaa_notation.specs.Written.{items_of_turn, text_of_turn}
-use Rattle.arimaa_record.proofs.PlainLaws.{IsPlain, plain_seen, all_append, decimal_seen, board_plain, joined_plain, turn_plain}
+use Rattle.arimaa_record.proofs.Lemmas.PlainLaws.{IsPlain, plain_seen, all_append, decimal_seen, board_plain, joined_plain, turn_plain}
 use Rattle.arimaa_forced.specs.declared.entry.Entry.{Entry}
 use Rattle.arimaa_strategy.specs.WrittenForm.{text_of_entry}
 

@@ -8,19 +8,19 @@ use Rattle.std.proofs.lemmas.List.{append-nil, take_more}
 use Rattle.std.proofs.lemmas.List.Elements.{All-nil}
 use Rattle.arimaa_board.specs.declared.piece.Color.{Color}
 use Rattle.arimaa_board.specs.Text.{text_of}
-use Rattle.arimaa_board.proofs.ReadingLaws.{read_IsBoardText}
-use Rattle.arimaa_board.proofs.TextLaws.{reading_of-text_of}
+use Rattle.arimaa_board.proofs.Lemmas.ReadingLaws.{read_IsBoardText}
+use Rattle.arimaa_board.proofs.Lemmas.TextLaws.{reading_of-text_of}
 use Rattle.arimaa_notation.specs.Items.{is_blank}
 use Rattle.arimaa_notation.specs.Written.{text_of_turn}
 use Rattle.arimaa_notation.specs.Grammar.{AreSteps, IsTurnText}
-use Rattle.arimaa_notation.proofs.ItemLaws.{items-blank}
+use Rattle.arimaa_notation.proofs.Lemmas.ItemLaws.{items-blank}
 use Rattle.arimaa_record.specs.Lines.{lines_of}
-use Rattle.arimaa_record.proofs.LineLaws.{no_lines}
-use Rattle.arimaa_record.proofs.PlainLaws.{solid_seen}
+use Rattle.arimaa_record.proofs.Lemmas.LineLaws.{no_lines}
+use Rattle.arimaa_record.proofs.Lemmas.PlainLaws.{solid_seen}
 use Rattle.arimaa_forced.specs.declared.entry.Entry.{Entry}
 use Rattle.arimaa_strategy.specs.Text.{IsEntryText, AreLinesOf, IsStrategyText}
 use Rattle.arimaa_strategy.specs.WrittenForm.{text_of_entry, ended_entry, text_of_strategy, IsWritable}
-use Rattle.arimaa_record.proofs.PlainLaws.{decimal_seen, first_plain}
+use Rattle.arimaa_record.proofs.Lemmas.PlainLaws.{decimal_seen, first_plain}
 use Rattle.arimaa_strategy.proofs.PlainText.{entry_plain}
 
 -- the written form of an entry's turn is read as it

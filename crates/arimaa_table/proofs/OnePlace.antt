@@ -8,7 +8,7 @@ use Rattle.arimaa_board.specs.declared.piece.Color.{Color}
 use Rattle.arimaa_board.specs.declared.position.Position.{Position}
 use Rattle.arimaa_line.specs.declared.line.Line.{Line}
 use Rattle.arimaa_line.specs.Lines.{IsTrueLine, stamp_of}
-use Rattle.arimaa_line.proofs.Truth.{stampless}
+use Rattle.arimaa_line.proofs.Lemmas.Truth.{stampless}
 use Rattle.arimaa_table.specs.declared.view.Kind.{Kind}
 use Rattle.arimaa_table.specs.declared.view.PlaceView.{PlaceView}
 use Rattle.arimaa_table.specs.Places.{untouched_place, after_take, after_give, NoNewer, Knows, takings_of, Place, Later, newer, place_after_join}

@@ -8,7 +8,7 @@ use Rattle.std.proofs.Math.ListN as listn
 use Rattle.atomic_table.specs.Table.{Splits, Joins, opening}
 use Rattle.atomic_table.proofs.Lists.{set_again, at_map, at_snoc}
 use Rattle.arimaa_line.specs.declared.line.Line.{Line}
-use Rattle.arimaa_line.proofs.Truth.{empty_is_true}
+use Rattle.arimaa_line.proofs.Lemmas.Truth.{empty_is_true}
 use Rattle.arimaa_line.specs.Lines.{empty_line}
 use Rattle.arimaa_table.specs.declared.view.PlaceView.{PlaceView}
 use Rattle.arimaa_table.specs.declared.view.PassView.{PassView}

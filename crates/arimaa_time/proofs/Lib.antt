@@ -1,7 +1,6 @@
-pub mod Controls
+pub mod Lemmas
 pub mod Lengths
 pub mod Cutting
 pub mod Numbers
 pub mod Readings
 pub mod Written
-pub mod FirstBad

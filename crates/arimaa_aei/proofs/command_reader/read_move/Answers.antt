@@ -1,5 +1,5 @@
 use Rattle.std.proofs.Common.{ap, sym, ◌∙◌}
-use Rattle.arimaa_notation.proofs.Reading.{no_turn}
+use Rattle.arimaa_notation.proofs.Lemmas.Reading.{no_turn}
 use Rattle.arimaa_aei.specs.Commands.{move_said, turn_told}
 use Rattle.arimaa_aei.proofs.command_reader.read_move.Goals as goal
 

@@ -7,7 +7,7 @@ use Rattle.arimaa_archive.specs.Shares.{IsShare}
 use Rattle.arimaa_archive.specs.RecordJudgements.{IsToldOfPart}
 use Rattle.arimaa_archive.proofs.ShareLaws.{ok_value, told_in_share}
 use Rattle.arimaa_archive.proofs.shares.judge_many.Goals as goal
-use Rattle.arimaa_record.proofs.PlainLaws.{all_zip_push}
+use Rattle.arimaa_record.proofs.Lemmas.PlainLaws.{all_zip_push}
 
 pub records-preserved : goal.records-preserved
 records-preserved g c =

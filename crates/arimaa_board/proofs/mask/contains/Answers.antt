@@ -1,4 +1,4 @@
-use Rattle.arimaa_board.proofs.Friends.{is_one}
+use Rattle.arimaa_board.proofs.Lemmas.Friends.{is_one}
 use Rattle.arimaa_board.proofs.mask.contains.Goals as goal
 
 pub returns-clause-test : goal.returns-clause-test

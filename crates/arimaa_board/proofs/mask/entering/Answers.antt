@@ -1,5 +1,5 @@
 use Rattle.std.proofs.Common.{◌<◌, ◌^◌, arith}
-use Rattle.arimaa_board.proofs.Beside.{north, east, south, west}
+use Rattle.arimaa_board.proofs.Lemmas.Beside.{north, east, south, west}
 use Rattle.arimaa_board.proofs.mask.entering.Goals as goal
 
 pub returns-in-North : goal.returns-in-North

@@ -1,4 +1,4 @@
-use Rattle.arimaa_board.proofs.MaskSquares.{one_square}
+use Rattle.arimaa_board.proofs.Lemmas.MaskSquares.{one_square}
 use Rattle.arimaa_board.proofs.mask.mask_of.Goals as goal
 
 pub returns-clause-square : goal.returns-clause-square

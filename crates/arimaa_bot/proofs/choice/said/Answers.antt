@@ -6,11 +6,11 @@ use Rattle.arimaa_board.specs.NotedTurns.{noted_marks, noted_turn}
 use Rattle.arimaa_model.specs.Faults.{applied}
 use Rattle.arimaa_model.specs.Marks.{marks_of}
 use Rattle.arimaa_model.specs.Results.{result_of}
-use Rattle.arimaa_model.proofs.Listed.{result-turn}
+use Rattle.arimaa_model.proofs.Lemmas.Listed.{result-turn}
 use Rattle.arimaa_notation.specs.Written.{text_of_turn}
 use Rattle.arimaa_bot.proofs.Entries.{length-noted, some_value}
 use Rattle.arimaa_bot.proofs.choice.said.Goals as goal
-use Rattle.arimaa_strategy.proofs.NotedTurns.{never-err, never_refused, some_steps, with_marks}
+use Rattle.arimaa_strategy.proofs.Lemmas.NotedTurns.{never-err, never_refused, some_steps, with_marks}
 
 pub unwrap-noted-requires : goal.unwrap-noted-requires
 unwrap-noted-requires c =

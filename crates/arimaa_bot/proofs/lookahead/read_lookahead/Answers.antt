@@ -1,4 +1,4 @@
-use Rattle.arimaa_options.proofs.OptionForms.{if_none}
+use Rattle.arimaa_options.proofs.Lemmas.OptionForms.{if_none}
 use Rattle.arimaa_bot.specs.declared.lookahead.Lookahead.{Lookahead}
 use Rattle.arimaa_bot.specs.Lookaheads.{AskFor}
 use Rattle.arimaa_bot.proofs.LookaheadForms.{asked, asks_nothing}

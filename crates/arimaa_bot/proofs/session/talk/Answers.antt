@@ -4,7 +4,7 @@ use Rattle.arimaa_bot.specs.Stages.{IsWhole}
 use Rattle.arimaa_bot.proofs.Midst.{midst_begun, midst_ended, midst_enough, midst_more}
 use Rattle.arimaa_bot.proofs.Whole.{whole_after}
 use Rattle.arimaa_bot.proofs.session.talk.Goals as goal
-use Rattle.arimaa_outside.proofs.CountLaws.{falls_never, never_fall}
+use Rattle.arimaa_outside.proofs.Lemmas.CountLaws.{falls_never, never_fall}
 
 pub loop-heard-init : goal.loop-heard-init
 loop-heard-init g c = record { midst = midst_begun _ _; whole = tt; faults = refl; never_falls = falls_never _ }

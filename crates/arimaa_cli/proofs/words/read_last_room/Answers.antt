@@ -1,7 +1,7 @@
 use Rattle.std.proofs.Common.{◌≡◌, ◌∷◌, [], drop, arith, refl}
 use Rattle.std.specs.Prelude.{codes}
 use Rattle.std.specs.Fmt.{decimal}
-use Rattle.arimaa_options.proofs.OptionForms.{nothing_left, two_words}
+use Rattle.arimaa_options.proofs.Lemmas.OptionForms.{nothing_left, two_words}
 use Rattle.arimaa_cli.proofs.words.read_last_room.Goals as goal
 
 pub returns-in-Some-clause-form : goal.returns-in-Some-clause-form

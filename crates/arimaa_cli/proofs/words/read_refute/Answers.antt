@@ -7,7 +7,7 @@ use Rattle.arimaa_cli.specs.declared.commands.prove.Asked.{Asked}
 use Rattle.arimaa_cli.specs.Commands.{AreWords}
 use Rattle.arimaa_cli.specs.Options.{AreOptionsOfOne}
 use Rattle.arimaa_cli.proofs.CommandForms.{prove_words, same_name}
-use Rattle.arimaa_options.proofs.OptionForms.{if_none}
+use Rattle.arimaa_options.proofs.Lemmas.OptionForms.{if_none}
 use Rattle.arimaa_cli.proofs.words.read_refute.Goals as goal
 
 pub overflow_cast-depth : goal.overflow_cast-depth

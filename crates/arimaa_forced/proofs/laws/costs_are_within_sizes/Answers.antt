@@ -1,6 +1,6 @@
 use Rattle.std.proofs.Common.{arith}
-use Rattle.arimaa_forced.proofs.Deeper.{cost-some}
-use Rattle.arimaa_forced.proofs.Trees.{cost-size, size-grows, crowd-grows}
+use Rattle.arimaa_forced.proofs.Lemmas.Deeper.{cost-some}
+use Rattle.arimaa_forced.proofs.Lemmas.Trees.{cost-size, size-grows, crowd-grows}
 use Rattle.arimaa_forced.proofs.laws.costs_are_within_sizes.Goals as goal
 
 pub returns-clause-some : goal.returns-clause-some

@@ -1,8 +1,8 @@
 use Rattle.std.proofs.Common.{◌≡◌, ℕ, suc, ◌+◌, arith, ap, ◌∙◌}
 use Rattle.arimaa_model.specs.Results.{next}
 use Rattle.arimaa_forced.specs.Search.{is_decisive, size, cost, crowd}
-use Rattle.arimaa_forced.proofs.Deeper.{size-deeper, cost-deeper, crowd-deeper}
-use Rattle.arimaa_forced.proofs.Looks.{sum_to-sum}
+use Rattle.arimaa_forced.proofs.Lemmas.Deeper.{size-deeper, cost-deeper, crowd-deeper}
+use Rattle.arimaa_forced.proofs.Lemmas.Looks.{sum_to-sum}
 use Rattle.arimaa_forced.proofs.laws.costs_go_one_deeper.Goals as goal
 
 pub returns-clause-size : goal.returns-clause-size

@@ -1,8 +1,8 @@
 use Rattle.arimaa_model.specs.Results.{next}
-use Rattle.arimaa_model.proofs.Members.{find-is}
-use Rattle.arimaa_model.proofs.Positions.{stands-In, In-stands}
+use Rattle.arimaa_model.proofs.Lemmas.Members.{find-is}
+use Rattle.arimaa_model.proofs.Lemmas.Positions.{stands-In, In-stands}
 use Rattle.arimaa_forced.specs.Search.{is_decisive, looked_at}
-use Rattle.arimaa_forced.proofs.Looks.{up_to-In, found-up_to, up_to-found, up_to-all}
+use Rattle.arimaa_forced.proofs.Lemmas.Looks.{up_to-In, found-up_to, up_to-found, up_to-all}
 use Rattle.arimaa_forced.proofs.laws.looks_end_at_the_first_decisive.Goals as goal
 
 pub returns-clause-decisive : goal.returns-clause-decisive

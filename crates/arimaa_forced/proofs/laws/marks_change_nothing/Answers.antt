@@ -3,9 +3,9 @@ use Rattle.std.proofs.Common.{subst, sym, List}
 use Rattle.arimaa_model.specs.Strategies.{Planned, strategy_of}
 use Rattle.arimaa_forced.specs.Acceptance.{Accepts}
 use Rattle.arimaa_forced.specs.Entries.{planned_of}
-use Rattle.arimaa_forced.proofs.Plays.{accepted-plays}
-use Rattle.arimaa_forced.proofs.OwnStrategies.{made-accepted}
-use Rattle.arimaa_forced.proofs.NotedEntries.{planned-written, written-marked}
+use Rattle.arimaa_forced.proofs.Lemmas.Plays.{accepted-plays}
+use Rattle.arimaa_forced.proofs.Lemmas.OwnStrategies.{made-accepted}
+use Rattle.arimaa_forced.proofs.Lemmas.NotedEntries.{planned-written, written-marked}
 use Rattle.arimaa_forced.proofs.laws.marks_change_nothing.Goals as goal
 
 pub returns-clause-plays : goal.returns-clause-plays

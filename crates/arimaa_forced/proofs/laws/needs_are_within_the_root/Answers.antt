@@ -1,4 +1,4 @@
-use Rattle.arimaa_forced.proofs.Trees.{need-tree, need-size, need-crowd}
+use Rattle.arimaa_forced.proofs.Lemmas.Trees.{need-tree, need-size, need-crowd}
 use Rattle.arimaa_forced.proofs.laws.needs_are_within_the_root.Goals as goal
 
 pub returns-clause-tree : goal.returns-clause-tree

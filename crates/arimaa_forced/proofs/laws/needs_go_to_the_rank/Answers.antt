@@ -1,6 +1,6 @@
 use Rattle.std.proofs.Common.{inl, refl, sym, arith}
 use Rattle.std.proofs.lemmas.Bool.{false_from_ne_true, both_ways}
-use Rattle.arimaa_model.proofs.Ranking.{wins-le, rank-is, rank-from}
+use Rattle.arimaa_model.proofs.Lemmas.Ranking.{wins-le, rank-is, rank-from}
 use Rattle.arimaa_forced.proofs.laws.needs_go_to_the_rank.Goals as goal
 
 pub returns-clause-to_the_rank : goal.returns-clause-to_the_rank

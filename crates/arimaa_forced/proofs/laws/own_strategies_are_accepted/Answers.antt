@@ -1,8 +1,8 @@
 use Rattle.arimaa_model.specs.Game.{barred_by}
 use Rattle.arimaa_model.specs.Strategies.{strategy_of}
-use Rattle.arimaa_forced.proofs.Plays.{accepted-plays}
+use Rattle.arimaa_forced.proofs.Lemmas.Plays.{accepted-plays}
 use Rattle.arimaa_forced.proofs.Meetings.{entry-met, met-entry}
-use Rattle.arimaa_forced.proofs.OwnStrategies.{made-accepted, made-ranked}
+use Rattle.arimaa_forced.proofs.Lemmas.OwnStrategies.{made-accepted, made-ranked}
 use Rattle.arimaa_forced.proofs.laws.own_strategies_are_accepted.Goals as goal
 
 pub returns-clause-accepted : goal.returns-clause-accepted

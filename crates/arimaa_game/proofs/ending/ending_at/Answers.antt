@@ -1,5 +1,5 @@
 use Rattle.std.proofs.Common.{◌∙◌}
-use Rattle.arimaa_game.proofs.Endings.{ending_at-decided, ending_at-undecided}
+use Rattle.arimaa_game.proofs.Lemmas.Endings.{ending_at-decided, ending_at-undecided}
 use Rattle.arimaa_game.proofs.ending.ending_at.Goals as goal
 
 pub returns-in-Some : goal.returns-in-Some

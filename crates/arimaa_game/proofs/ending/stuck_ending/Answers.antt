@@ -3,8 +3,8 @@ use Rattle.std.specs.List.{list_any}
 use Rattle.arimaa_board.specs.declared.position.Position.{Position}
 use Rattle.arimaa_model.specs.Results.{results, stands_in}
 use Rattle.arimaa_model.specs.Game.{barred_by, ended_for, lawful_at}
-use Rattle.arimaa_model.proofs.Barring.{next-lawful}
-use Rattle.arimaa_game.proofs.Endings.{left-some, left-none}
+use Rattle.arimaa_model.proofs.Lemmas.Barring.{next-lawful}
+use Rattle.arimaa_game.proofs.Lemmas.Endings.{left-some, left-none}
 use Rattle.arimaa_game.proofs.ending.stuck_ending.Goals as goal
 
 pub returns-then-is_some : goal.returns-then-is_some

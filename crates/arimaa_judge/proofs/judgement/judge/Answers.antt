@@ -1,6 +1,6 @@
 use Rattle.std.proofs.Common.{ap, ◌∙◌}
 use Rattle.arimaa_record.specs.Lines.{lines_of}
-use Rattle.arimaa_record.proofs.LineLaws.{no_lines}
+use Rattle.arimaa_record.proofs.Lemmas.LineLaws.{no_lines}
 use Rattle.arimaa_judge.proofs.judgement.judge.Goals as goal
 
 pub returns-clause-judged : goal.returns-clause-judged

@@ -1,6 +1,6 @@
 use Rattle.arimaa_record.specs.Lines.{lines_of}
 use Rattle.arimaa_judge.specs.RecordState.{before_lines}
-use Rattle.arimaa_judge.proofs.JudgedLines.{one_judgement}
+use Rattle.arimaa_judge.proofs.Lemmas.JudgedLines.{one_judgement}
 use Rattle.arimaa_judge.proofs.laws.judgements_agree.Goals as goal
 
 pub returns : goal.returns

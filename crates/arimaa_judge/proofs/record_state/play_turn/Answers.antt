@@ -1,5 +1,5 @@
 use Rattle.std.proofs.Common.{◌∙◌, sym}
-use Rattle.arimaa_judge.proofs.TurnLaws.{broken_rule, brought, goes, goes_on}
+use Rattle.arimaa_judge.proofs.Lemmas.TurnLaws.{broken_rule, brought, goes, goes_on}
 use Rattle.arimaa_judge.proofs.record_state.play_turn.Goals as goal
 
 pub returns-in-Ok-clause-history : goal.returns-in-Ok-clause-history

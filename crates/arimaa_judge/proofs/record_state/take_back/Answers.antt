@@ -1,5 +1,5 @@
 use Rattle.std.proofs.Common.{◌∙◌}
-use Rattle.arimaa_judge.proofs.TurnLaws.{stood}
+use Rattle.arimaa_judge.proofs.Lemmas.TurnLaws.{stood}
 use Rattle.arimaa_judge.proofs.record_state.take_back.Goals as goal
 
 pub returns-clause-stood : goal.returns-clause-stood

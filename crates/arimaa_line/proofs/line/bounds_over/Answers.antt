@@ -1,6 +1,6 @@
 use Rattle.std.proofs.Common.{refl, sym}
 use Rattle.arimaa_line.specs.Lines.{Says}
-use Rattle.arimaa_line.proofs.Truth.{truth_said}
+use Rattle.arimaa_line.proofs.Lemmas.Truth.{truth_said}
 use Rattle.arimaa_line.proofs.line.bounds_over.Goals as goal
 
 pub tightest-requires : goal.tightest-requires

@@ -3,7 +3,7 @@ use Rattle.arimaa_board.specs.Words.{squares_of, words_of}
 use Rattle.arimaa_line.specs.declared.bounds.Bounds.{Bounds}
 use Rattle.arimaa_line.specs.Lines.{stamp_of}
 use Rattle.arimaa_line.proofs.Decoding.{board_words}
-use Rattle.arimaa_line.proofs.Truth.{says_there, says_only}
+use Rattle.arimaa_line.proofs.Lemmas.Truth.{says_there, says_only}
 use Rattle.arimaa_line.proofs.line.read.Goals as goal
 
 pub returns-then-eq : goal.returns-then-eq

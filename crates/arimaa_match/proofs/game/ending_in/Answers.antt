@@ -1,5 +1,5 @@
 use Rattle.std.proofs.Common.{◌∙◌, sym}
-use Rattle.arimaa_game.proofs.Endings.{unclosed-ending}
+use Rattle.arimaa_game.proofs.Lemmas.Endings.{unclosed-ending}
 use Rattle.arimaa_match.proofs.game.ending_in.Goals as goal
 
 pub returns-in-Playing : goal.returns-in-Playing

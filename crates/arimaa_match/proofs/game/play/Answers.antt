@@ -1,5 +1,5 @@
-use Rattle.arimaa_judge.proofs.TurnLaws.{brought, goes_on}
-use Rattle.arimaa_game.proofs.Endings.{running-rules}
+use Rattle.arimaa_judge.proofs.Lemmas.TurnLaws.{brought, goes_on}
+use Rattle.arimaa_game.proofs.Lemmas.Endings.{running-rules}
 use Rattle.arimaa_match.proofs.Games.{played_lawful, refused_unlawful}
 use Rattle.arimaa_match.proofs.game.play.Goals as goal
 

@@ -1,5 +1,5 @@
 use Rattle.std.specs.Int.Bits.{and_lt}
-use Rattle.arimaa_board.proofs.MaskLaws.{and_mask}
+use Rattle.arimaa_board.proofs.Lemmas.MaskLaws.{and_mask}
 use Rattle.arimaa_board.specs.declared.piece.Kind.TheVariants.{Rabbit}
 use Rattle.arimaa_board.specs.Board.{at, holds}
 use Rattle.arimaa_board.specs.Piece.{piece_of}

@@ -6,7 +6,7 @@ use Rattle.arimaa_board.specs.declared.position.Position.{Position}
 use Rattle.arimaa_model.specs.DecidedPositions.{decided}
 use Rattle.arimaa_model.specs.Results.{next}
 use Rattle.arimaa_model.specs.Wins.{is_nil, wins, wins_among}
-use Rattle.arimaa_model.proofs.WinsLaws.{wins-decided, wins-stuck, wins-end, wins-deeper, is_nil-true}
+use Rattle.arimaa_model.proofs.Lemmas.WinsLaws.{wins-decided, wins-stuck, wins-end, wins-deeper, is_nil-true}
 use Rattle.arimaa_model.proofs.forced_win.+wins.Goals as goal
 
 pub plain_wins-returns-in-Some : goal.plain_wins-returns-in-Some

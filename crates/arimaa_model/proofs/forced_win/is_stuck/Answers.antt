@@ -3,7 +3,7 @@ use Rattle.std.specs.Prelude.{not}
 use Rattle.std.specs.List.{list_any}
 use Rattle.arimaa_model.specs.Results.{stands_in, first_occurrences}
 use Rattle.arimaa_model.specs.Plain.{reached}
-use Rattle.arimaa_model.proofs.Distinct.{near-next}
+use Rattle.arimaa_model.proofs.Lemmas.Distinct.{near-next}
 use Rattle.std.proofs.Common.{[]}
 use Rattle.arimaa_model.proofs.forced_win.is_stuck.Goals as goal
 

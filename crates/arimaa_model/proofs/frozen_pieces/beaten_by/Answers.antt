@@ -1,6 +1,6 @@
 use Rattle.std.proofs.Common.{ℕ}
 use Rattle.std.specs.Prelude.{◌||◌}
-use Rattle.arimaa_board.proofs.MaskLaws.{or_mask, like_mask}
+use Rattle.arimaa_board.proofs.Lemmas.MaskLaws.{or_mask, like_mask}
 use Rattle.arimaa_board.specs.Board.{at}
 use Rattle.arimaa_board.specs.declared.piece.Kind.{Kind}
 use Rattle.arimaa_board.specs.declared.piece.Kind.TheVariants.{Rabbit, Cat, Dog, Horse, Camel}

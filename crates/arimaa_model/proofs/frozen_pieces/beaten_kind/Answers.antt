@@ -1,5 +1,5 @@
 use Rattle.std.proofs.Common.{◌&&◌}
-use Rattle.arimaa_board.proofs.MaskLaws.{and_mask}
+use Rattle.arimaa_board.proofs.Lemmas.MaskLaws.{and_mask}
 use Rattle.arimaa_board.specs.Board.{at}
 use Rattle.arimaa_board.specs.Masks.{is_beside, holds_kind, holds_above}
 use Rattle.arimaa_model.proofs.frozen_pieces.beaten_kind.Goals as goal

@@ -1,6 +1,6 @@
 use Rattle.std.proofs.Common.{◌&&◌, ℕ}
 use Rattle.std.specs.Prelude.{not}
-use Rattle.arimaa_board.proofs.MaskLaws.{and_mask, not_mask, like_mask}
+use Rattle.arimaa_board.proofs.Lemmas.MaskLaws.{and_mask, not_mask, like_mask}
 use Rattle.arimaa_board.specs.Board.{at, holds_color}
 use Rattle.arimaa_model.specs.Frozen.{is_frozen, is_unfrozen}
 use Rattle.arimaa_model.proofs.BeatenMasks.{unfrozen_marked}

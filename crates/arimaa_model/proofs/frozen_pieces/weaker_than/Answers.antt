@@ -1,5 +1,5 @@
 use Rattle.std.proofs.Common.{◌&&◌, Some}
-use Rattle.arimaa_board.proofs.MaskLaws.{and_mask, like_mask}
+use Rattle.arimaa_board.proofs.Lemmas.MaskLaws.{and_mask, like_mask}
 use Rattle.arimaa_board.specs.Board.{at, holds_color}
 use Rattle.arimaa_board.specs.Masks.{holds_below}
 use Rattle.arimaa_board.specs.Piece.{other_color}

@@ -1,6 +1,6 @@
 use Rattle.std.proofs.Common.{length, drop, sym, ◌∙◌, ap, eqb-true}
 use Rattle.arimaa_notation.specs.Items.{IsFirstItem}
-use Rattle.arimaa_notation.proofs.ItemLaws.{first-split, first-shorter, items-first, items-none}
+use Rattle.arimaa_notation.proofs.Lemmas.ItemLaws.{first-split, first-shorter, items-first, items-none}
 use Rattle.arimaa_notation.proofs.items.first_item.Goals as goal
 
 pub returns-then-is_empty-clause-none : goal.returns-then-is_empty-clause-none

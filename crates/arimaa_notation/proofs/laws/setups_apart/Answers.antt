@@ -5,7 +5,7 @@ use Rattle.arimaa_board.specs.declared.piece.Piece.{Piece}
 use Rattle.arimaa_board.specs.Setup.{Lineup}
 use Rattle.arimaa_notation.specs.Items.{items_of}
 use Rattle.arimaa_notation.specs.Grammar.{IsSetupText}
-use Rattle.arimaa_notation.proofs.SetupReading.{same_items, same_lineup}
+use Rattle.arimaa_notation.proofs.Lemmas.SetupReading.{same_items, same_lineup}
 use Rattle.arimaa_notation.proofs.laws.setups_apart.Goals as goal
 
 apart : (bytes : List ℕ) (color : Color) (s t : Lineup) → IsSetupText bytes color s → IsSetupText bytes color t → s ≡ t

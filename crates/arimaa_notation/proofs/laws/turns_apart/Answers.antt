@@ -1,5 +1,5 @@
 use Rattle.std.proofs.Common.{◌∙◌, sym}
-use Rattle.arimaa_notation.proofs.GrammarLaws.{same_turn}
+use Rattle.arimaa_notation.proofs.Lemmas.GrammarLaws.{same_turn}
 use Rattle.arimaa_notation.proofs.laws.turns_apart.Goals as goal
 
 pub returns : goal.returns

@@ -1,5 +1,5 @@
 use Rattle.std.proofs.Common.{ℕ, true≢false, sym, ◌∙◌}
-use Rattle.arimaa_notation.proofs.Numbers.{parsed, unparsed, unread, no_text, no_plain_start, number_read}
+use Rattle.arimaa_notation.proofs.Lemmas.Numbers.{parsed, unparsed, unread, no_text, no_plain_start, number_read}
 use Rattle.arimaa_notation.proofs.number.read_number.Goals as goal
 
 pub returns-then-not-has_plain_start-clause-number : goal.returns-then-not-has_plain_start-clause-number

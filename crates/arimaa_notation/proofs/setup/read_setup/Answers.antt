@@ -6,8 +6,8 @@ use Rattle.arimaa_notation.specs.declared.fault.NoteFault.{NoteFault}
 use Rattle.arimaa_notation.specs.declared.fault.NoteFault.TheVariants.{Token, Steps, Setup}
 use Rattle.arimaa_notation.specs.Items.{items_of}
 use Rattle.arimaa_notation.specs.Grammar.{IsSetupReading, IsSetupText}
-use Rattle.arimaa_notation.proofs.SetupReading.{one_reading}
-use Rattle.arimaa_notation.proofs.SetupRule.{setup_read}
+use Rattle.arimaa_notation.proofs.Lemmas.SetupReading.{one_reading}
+use Rattle.arimaa_notation.proofs.Lemmas.SetupRule.{setup_read}
 use Rattle.arimaa_notation.proofs.setup.read_setup.Goals as goal
 
 -- the answer is this one exactly where the items are read as it

@@ -1,7 +1,7 @@
 use Rattle.std.proofs.Common.{◌++◌, [], ◌∷◌, ℕ}
 use Rattle.arimaa_board.specs.declared.piece.Piece.{Piece}
 use Rattle.arimaa_notation.specs.Items.{items_of}
-use Rattle.arimaa_notation.proofs.SetupReading.{midst-fault, midst-more, midst-refused}
+use Rattle.arimaa_notation.proofs.Lemmas.SetupReading.{midst-fault, midst-more, midst-refused}
 use Rattle.arimaa_notation.proofs.setup.reading.Goals as goal
 
 pub returns-in_default-read_entry : goal.returns-in_default-read_entry

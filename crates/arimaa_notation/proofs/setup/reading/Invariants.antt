@@ -1,6 +1,6 @@
 use Rattle.std.proofs.Common.{ℕ, List, length}
 use Rattle.arimaa_board.specs.declared.piece.Piece.{Piece}
-use Rattle.arimaa_notation.proofs.SetupReading.{Midst}
+use Rattle.arimaa_notation.proofs.Lemmas.SetupReading.{Midst}
 use Rattle.arimaa_notation.proofs.setup.reading.Given as goal
 
 abbrev pub invariant-loop-item : goal.invariant-loop-item

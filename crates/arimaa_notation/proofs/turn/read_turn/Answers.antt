@@ -5,8 +5,8 @@ use Rattle.arimaa_notation.specs.declared.fault.NoteFault.{NoteFault}
 use Rattle.arimaa_notation.specs.declared.fault.NoteFault.TheVariants.{Token, Steps, Setup}
 use Rattle.arimaa_notation.specs.Items.{items_of}
 use Rattle.arimaa_notation.specs.Grammar.{IsTurnReading, IsTurnText}
-use Rattle.arimaa_notation.proofs.TurnReading.{one_reading}
-use Rattle.arimaa_notation.proofs.Reading.{turn_read}
+use Rattle.arimaa_notation.proofs.Lemmas.TurnReading.{one_reading}
+use Rattle.arimaa_notation.proofs.Lemmas.Reading.{turn_read}
 use Rattle.arimaa_notation.proofs.turn.read_turn.Goals as goal
 
 -- the answer is this one exactly where the items are read as it

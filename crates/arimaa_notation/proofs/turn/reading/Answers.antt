@@ -1,7 +1,7 @@
 use Rattle.std.proofs.Common.{◌+◌, ◌++◌, [], ◌∷◌, ℕ, subst, sym}
 use Rattle.arimaa_board.specs.declared.turn.NotedStep.{NotedStep}
 use Rattle.arimaa_notation.specs.Items.{items_of}
-use Rattle.arimaa_notation.proofs.TurnReading.{Midst, midst-fault, midst-more}
+use Rattle.arimaa_notation.proofs.Lemmas.TurnReading.{Midst, midst-fault, midst-more}
 use Rattle.arimaa_notation.proofs.turn.reading.Goals as goal
 
 pub returns-in_default-read_step : goal.returns-in_default-read_step

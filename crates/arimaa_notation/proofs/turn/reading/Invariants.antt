@@ -1,6 +1,6 @@
 use Rattle.std.proofs.Common.{List, length}
 use Rattle.arimaa_board.specs.declared.turn.NotedStep.{NotedStep}
-use Rattle.arimaa_notation.proofs.TurnReading.{Midst}
+use Rattle.arimaa_notation.proofs.Lemmas.TurnReading.{Midst}
 use Rattle.arimaa_notation.proofs.turn.reading.Given as goal
 
 abbrev pub invariant-loop-item : goal.invariant-loop-item

@@ -1,6 +1,6 @@
 use Rattle.std.proofs.Common.{[], ◌∷◌, length, arith, ◌∙◌, ap, take_all, length-append, get_or}
 use Rattle.arimaa_notation.specs.Written.{with_item}
-use Rattle.arimaa_notation.proofs.WrittenLaws.{with_item-more, with_item-spaced, with_item-first}
+use Rattle.arimaa_notation.proofs.Lemmas.WrittenLaws.{with_item-more, with_item-spaced, with_item-first}
 use Rattle.arimaa_notation.proofs.writer.push_item.Goals as goal
 use Rattle.arimaa_notation.proofs.writer.push_item.Goals.{then-not-is_empty, else-not-is_empty}
 

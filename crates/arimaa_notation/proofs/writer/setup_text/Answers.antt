@@ -2,8 +2,8 @@ use Rattle.std.proofs.Common.{◌≡◌, ◌<◌, List, ℕ, take, ap, length, �
 use Rattle.std.specs.List.{AllByRecursion}
 use Rattle.arimaa_board.specs.declared.piece.Piece.{Piece}
 use Rattle.arimaa_notation.specs.Written.{joined, items_of_entries}
-use Rattle.arimaa_notation.proofs.WrittenLaws.{size-lineup}
-use Rattle.arimaa_notation.proofs.ReadingBack.{setup-back}
+use Rattle.arimaa_notation.proofs.Lemmas.WrittenLaws.{size-lineup}
+use Rattle.arimaa_notation.proofs.Lemmas.ReadingBack.{setup-back}
 use Rattle.arimaa_notation.proofs.writer.setup_text.Goals as goal
 
 pub loop-square-init : goal.loop-square-init

@@ -5,8 +5,8 @@ use Rattle.std.proofs.lemmas.List.{take_more}
 use Rattle.std.specs.Prelude.{fold}
 use Rattle.arimaa_notation.specs.Written.{with_item, text_of_turn, items_of_step}
 use Rattle.arimaa_notation.specs.Grammar.{IsOnBoard}
-use Rattle.arimaa_notation.proofs.ReadingBack.{all_more, turn-back}
-use Rattle.arimaa_notation.proofs.WrittenLaws.{turn-more, length-more}
+use Rattle.arimaa_notation.proofs.Lemmas.ReadingBack.{all_more, turn-back}
+use Rattle.arimaa_notation.proofs.Lemmas.WrittenLaws.{turn-more, length-more}
 use Rattle.arimaa_notation.proofs.writer.turn_text.Goals as goal
 
 pub loop-noted-preserved : goal.loop-noted-preserved

@@ -1,7 +1,7 @@
 use Rattle.std.proofs.Common.{◌+◌, drop, arith, refl}
 use Rattle.arimaa_options.specs.declared.option_values.Given.{Given}
 use Rattle.arimaa_options.specs.Options.{Give, nothing_given}
-use Rattle.arimaa_options.proofs.OptionForms.{get_within, if_none, last_word, next_option, no_half, none_more, nothing_left, one_more, same_more, two_words}
+use Rattle.arimaa_options.proofs.Lemmas.OptionForms.{get_within, if_none, last_word, next_option, no_half, none_more, nothing_left, one_more, same_more, two_words}
 use Rattle.arimaa_options.proofs.option_values.read_given.Goals as goal
 
 pub returns-in_err-number-clause-none : goal.returns-in_err-number-clause-none

@@ -1,6 +1,6 @@
 use Rattle.std.proofs.Common.{◌≤◌, ◌*◌, drop, subst, arith}
 use Rattle.arimaa_options.specs.declared.search_options.SearchOptions.{SearchOptions}
-use Rattle.arimaa_options.proofs.OptionForms.{limits, one_options}
+use Rattle.arimaa_options.proofs.Lemmas.OptionForms.{limits, one_options}
 use Rattle.arimaa_options.proofs.search_options.read_options.Goals as goal
 
 pub returns-then-from-le-MOST_PLACES_OF_ALL-clause-ranges : goal.returns-then-from-le-MOST_PLACES_OF_ALL-clause-ranges

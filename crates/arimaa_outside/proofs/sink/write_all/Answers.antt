@@ -1,5 +1,5 @@
 use Rattle.std.proofs.Common.{arith, length-drop, length-take}
-use Rattle.arimaa_outside.proofs.Content.{took_more}
+use Rattle.arimaa_outside.proofs.Lemmas.Content.{took_more}
 use Rattle.arimaa_outside.proofs.sink.write_all.Goals as goal
 
 pub loop-written-preserved : goal.loop-written-preserved

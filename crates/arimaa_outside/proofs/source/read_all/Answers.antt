@@ -1,5 +1,5 @@
 use Rattle.std.proofs.lemmas.Result.{err_from_is_err_and}
-use Rattle.arimaa_outside.proofs.Content.{gave_both}
+use Rattle.arimaa_outside.proofs.Lemmas.Content.{gave_both}
 use Rattle.arimaa_outside.proofs.source.read_all.Goals as goal
 
 pub returns-then-count-len-clause-lost : goal.returns-then-count-len-clause-lost

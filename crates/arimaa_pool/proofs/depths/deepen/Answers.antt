@@ -3,7 +3,7 @@ use Rattle.arimaa_model.specs.DecidedPositions.{decided}
 use Rattle.arimaa_model.specs.Ranks.{rank_within}
 use Rattle.arimaa_model.specs.Results.{next}
 use Rattle.arimaa_model.specs.Wins.{wins}
-use Rattle.arimaa_model.proofs.Lists.{is_some-None}
+use Rattle.arimaa_model.proofs.Lemmas.Lists.{is_some-None}
 use Rattle.arimaa_region.specs.Segments.{live_of}
 use Rattle.arimaa_forced.specs.Needs.{IsAsked}
 use Rattle.arimaa_pool.specs.Terms.{Terms}

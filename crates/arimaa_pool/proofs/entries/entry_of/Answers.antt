@@ -8,9 +8,9 @@ use Rattle.arimaa_model.specs.Results.{result_of}
 use Rattle.arimaa_model.specs.Faults.{applied}
 use Rattle.arimaa_model.specs.Strategies.{entry_of, first_turn, result_at}
 use Rattle.arimaa_pool.specs.Terms.{Terms}
-use Rattle.arimaa_pool.proofs.EntryLaws.{reached-turn, written}
+use Rattle.arimaa_pool.proofs.Lemmas.EntryLaws.{reached-turn, written}
 use Rattle.arimaa_pool.proofs.entries.entry_of.Goals as goal
-use Rattle.arimaa_strategy.proofs.NotedTurns.{with_marks, never_refused, never-err}
+use Rattle.arimaa_strategy.proofs.Lemmas.NotedTurns.{with_marks, never_refused, never-err}
 
 -- what the entry brings about, on the terms at the beginning
 same_terms : (t u : Terms) (n : ℕ) (q r : Position) → u ≡ t → result_at (entry_of u.attacker u.barred n q) ≡ Some r → result_at (entry_of t.attacker t.barred n q) ≡ Some r

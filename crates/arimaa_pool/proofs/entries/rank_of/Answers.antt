@@ -1,7 +1,7 @@
 use Rattle.std.proofs.Common.{◌≡◌, ◌<◌, ◌≤◌, true, false, inl, inr, refl, sym, ◌∙◌, ap, arith}
 use Rattle.arimaa_model.specs.Ranks.{rank_within}
 use Rattle.arimaa_model.specs.Wins.{wins}
-use Rattle.arimaa_model.proofs.Ranking.{rank-from}
+use Rattle.arimaa_model.proofs.Lemmas.Ranking.{rank-from}
 use Rattle.arimaa_forced.specs.Needs.{IsAsked}
 use Rattle.arimaa_pool.specs.Terms.{Terms}
 use Rattle.arimaa_pool.proofs.HandedOn.{stop_on}

@@ -4,15 +4,15 @@ use Rattle.arimaa_model.specs.Members.{Stands}
 use Rattle.arimaa_model.specs.Ranks.{rank_within}
 use Rattle.arimaa_model.specs.Results.{next}
 use Rattle.arimaa_model.specs.Strategies.{entry_of, result_at}
-use Rattle.arimaa_model.proofs.Ranking.{rank-bound}
+use Rattle.arimaa_model.proofs.Lemmas.Ranking.{rank-bound}
 use Rattle.arimaa_region.specs.Segments.{live_of}
 use Rattle.arimaa_forced.specs.Needs.{IsAsked}
 use Rattle.arimaa_forced.specs.Search.{looked_at, first_decisive}
-use Rattle.arimaa_forced.proofs.Looks.{first-played}
+use Rattle.arimaa_forced.proofs.Lemmas.Looks.{first-played}
 use Rattle.arimaa_pool.specs.Terms.{Terms}
 use Rattle.arimaa_pool.proofs.HandedOn.{stop_on}
 use Rattle.arimaa_pool.proofs.RankBounds.{asked_itself, asked_place, long-crowd}
-use Rattle.arimaa_pool.proofs.EntryLaws.{open-rank, open-result}
+use Rattle.arimaa_pool.proofs.Lemmas.EntryLaws.{open-rank, open-result}
 use Rattle.arimaa_pool.proofs.entries.result_of.Goals as goal
 
 pub overflow_sub-rank : goal.overflow_sub-rank

@@ -4,8 +4,8 @@ use Rattle.arimaa_board.specs.declared.position.Position.{Position}
 use Rattle.arimaa_model.specs.Ranks.{IsRank, rank_within}
 use Rattle.arimaa_model.specs.Results.{first_occurrences}
 use Rattle.arimaa_model.specs.Strategies.{IsOpen, after_entry, met}
-use Rattle.arimaa_model.proofs.Members.{In}
-use Rattle.arimaa_model.proofs.Meeting.{all-ready, contained}
+use Rattle.arimaa_model.proofs.Lemmas.Members.{In}
+use Rattle.arimaa_model.proofs.Lemmas.Meeting.{all-ready, contained}
 use Rattle.arimaa_forced.specs.Needs.{IsAsked, InNeed}
 use Rattle.arimaa_forced.specs.declared.entry.Entry.{Entry}
 use Rattle.arimaa_pool.specs.Terms.{Terms}

@@ -2,13 +2,13 @@ use Rattle.std.proofs.Common.{◌≡◌, ℕ, ◌-◌, ◌<◌, length, sym, ◌
 use Rattle.arimaa_board.specs.declared.position.Position.{Position}
 use Rattle.arimaa_model.specs.Ranks.{rank_within}
 use Rattle.arimaa_model.specs.Wins.{wins}
-use Rattle.arimaa_model.proofs.Meeting.{entry-rank}
+use Rattle.arimaa_model.proofs.Lemmas.Meeting.{entry-rank}
 use Rattle.arimaa_forced.specs.Needs.{IsAsked}
 use Rattle.arimaa_forced.specs.declared.entry.Entry.{Entry}
 use Rattle.arimaa_pool.specs.Terms.{Terms}
 use Rattle.arimaa_pool.specs.Extraction.{written_entry}
 use Rattle.arimaa_pool.proofs.HandedOn.{failed_too}
-use Rattle.arimaa_pool.proofs.EntryLaws.{some-rank, reached-rank, reached-asked, written-steps}
+use Rattle.arimaa_pool.proofs.Lemmas.EntryLaws.{some-rank, reached-rank, reached-asked, written-steps}
 use Rattle.arimaa_pool.proofs.extraction.play.Goals as goal
 
 -- the rank that the entry has

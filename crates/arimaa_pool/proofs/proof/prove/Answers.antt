@@ -1,6 +1,6 @@
 use Rattle.std.proofs.Common.{◌≡◌, Some, is_some, refl, sym, ◌∙◌, ap}
 use Rattle.arimaa_model.specs.Game.{present}
-use Rattle.arimaa_model.proofs.Present.{present-some}
+use Rattle.arimaa_model.proofs.Lemmas.Present.{present-some}
 use Rattle.arimaa_pool.specs.Verdicts.{terms_of}
 use Rattle.arimaa_pool.proofs.VerdictLaws.{terms_same, answer_for, answer-plays, answer-done}
 use Rattle.arimaa_pool.proofs.proof.prove.Goals as goal

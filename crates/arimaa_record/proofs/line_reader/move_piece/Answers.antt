@@ -1,5 +1,5 @@
 use Rattle.std.proofs.Common.{arith}
-use Rattle.arimaa_record.proofs.LineGathering.{piece-fed, piece-whole}
+use Rattle.arimaa_record.proofs.Lemmas.LineGathering.{piece-fed, piece-whole}
 use Rattle.arimaa_record.proofs.line_reader.move_piece.Goals as goal
 
 pub returns-then-len-size-clause-moved : goal.returns-then-len-size-clause-moved

@@ -1,4 +1,4 @@
-use Rattle.arimaa_record.proofs.LineLaws.{lines-cut, filled_by_test}
+use Rattle.arimaa_record.proofs.Lemmas.LineLaws.{lines-cut, filled_by_test}
 use Rattle.arimaa_record.proofs.lines.first_line.Goals as goal
 
 pub returns-clause-lines : goal.returns-clause-lines

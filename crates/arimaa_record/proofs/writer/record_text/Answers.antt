@@ -1,6 +1,6 @@
 use Rattle.std.proofs.Common.{◌≡◌, List, take, ◌∙◌, ap, subst, take_all}
 use Rattle.std.specs.List.{AllByRecursion}
-use Rattle.arimaa_notation.proofs.ReadingBack.{all_more}
+use Rattle.arimaa_notation.proofs.Lemmas.ReadingBack.{all_more}
 use Rattle.arimaa_record.specs.declared.line.RecordLine.{RecordLine}
 use Rattle.arimaa_record.specs.Written.{text_of_record}
 use Rattle.arimaa_record.proofs.WrittenBack.{ReadsBack, record_more, record_back}

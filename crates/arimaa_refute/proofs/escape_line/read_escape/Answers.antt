@@ -2,8 +2,8 @@ use Rattle.std.proofs.Common.{◌≡◌, ◌∙◌, [], ◌∷◌, sym, subst, r
 use Rattle.std.specs.Fmt.{decimal}
 use Rattle.arimaa_board.specs.Piece.{other_color}
 use Rattle.arimaa_notation.specs.Items.{items_of, IsFirstItem}
-use Rattle.arimaa_notation.proofs.ItemLaws.{items-first}
-use Rattle.arimaa_strategy.proofs.EntryLines.{rank_of}
+use Rattle.arimaa_notation.proofs.Lemmas.ItemLaws.{items-first}
+use Rattle.arimaa_strategy.proofs.Lemmas.EntryLines.{rank_of}
 use Rattle.arimaa_refute.specs.Escapes.{entry_of}
 use Rattle.arimaa_refute.proofs.escape_line.read_escape.Goals as goal
 

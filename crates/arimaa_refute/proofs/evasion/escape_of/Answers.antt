@@ -10,7 +10,7 @@ use Rattle.arimaa_refute.specs.OwnEscapes.{first_evasion}
 use Rattle.arimaa_refute.specs.Refutations.{Terms}
 use Rattle.arimaa_refute.proofs.FirstEvasions.{evasion-turn}
 use Rattle.arimaa_refute.proofs.evasion.escape_of.Goals as goal
-use Rattle.arimaa_strategy.proofs.NotedTurns.{with_marks, never_refused, never-err}
+use Rattle.arimaa_strategy.proofs.Lemmas.NotedTurns.{with_marks, never_refused, never-err}
 
 pub unwrap-turn-requires : goal.unwrap-turn-requires
 unwrap-turn-requires c =

@@ -1,5 +1,5 @@
 use Rattle.std.proofs.lemmas.Bool.{both_ways}
-use Rattle.arimaa_forced.proofs.Plays.{accepted-wins}
+use Rattle.arimaa_forced.proofs.Lemmas.Plays.{accepted-wins}
 use Rattle.arimaa_refute.proofs.HeldRoots.{held-lost, held-fewer}
 use Rattle.arimaa_refute.proofs.laws.held_roots_are_not_won.Goals as goal
 

@@ -4,7 +4,7 @@ use Rattle.arimaa_refute.specs.OwnEscapes.{first_evasion}
 use Rattle.arimaa_refute.specs.Refutations.{Terms, IsBelow}
 use Rattle.arimaa_refute.proofs.Levels.{evasion-below}
 use Rattle.arimaa_refute.proofs.maker.escape_from.Goals as goal
-use Rattle.arimaa_strategy.proofs.NotedTurns.{marked-steps}
+use Rattle.arimaa_strategy.proofs.Lemmas.NotedTurns.{marked-steps}
 
 pub push-requires : goal.push-requires
 push-requires c =

@@ -1,7 +1,7 @@
 use Rattle.std.proofs.Common.{◌≡◌, ◌<◌, length, false, is_some, sym, ◌∙◌, ap, arith}
 use Rattle.arimaa_model.specs.DecidedPositions.{decided}
 use Rattle.arimaa_model.specs.Results.{next}
-use Rattle.arimaa_model.proofs.Lists.{is_some-None}
+use Rattle.arimaa_model.proofs.Lemmas.Lists.{is_some-None}
 use Rattle.arimaa_region.specs.Segments.{live_of}
 use Rattle.arimaa_refute.specs.Refutations.{Terms}
 use Rattle.arimaa_refute.proofs.Levels.{long-crowd}

@@ -1,4 +1,4 @@
-use Rattle.arimaa_refute.proofs.EscapeReading.{escapes-read, bad-read, read-from}
+use Rattle.arimaa_refute.proofs.Lemmas.EscapeReading.{escapes-read, bad-read, read-from}
 use Rattle.arimaa_refute.proofs.reader.read_escapes.Goals as goal
 
 pub returns-clause-no_other : goal.returns-clause-no_other

@@ -1,6 +1,6 @@
 use Rattle.std.proofs.Common.{⊎_elim}
 use Rattle.std.proofs.lemmas.Bool.{both_ways}
-use Rattle.arimaa_refute.proofs.EscapeReading.{escapes-start, escapes-more, escapes-blank, escapes-bad, escapes-end}
+use Rattle.arimaa_refute.proofs.Lemmas.EscapeReading.{escapes-start, escapes-more, escapes-blank, escapes-bad, escapes-end}
 use Rattle.arimaa_refute.proofs.reader.reading.Goals as goal
 
 pub loop-line-init : goal.loop-line-init

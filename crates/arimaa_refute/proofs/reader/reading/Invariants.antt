@@ -1,5 +1,5 @@
 use Rattle.std.proofs.Common.{length}
-use Rattle.arimaa_refute.proofs.EscapeReading.{Midst}
+use Rattle.arimaa_refute.proofs.Lemmas.EscapeReading.{Midst}
 use Rattle.arimaa_refute.proofs.reader.reading.Given as goal
 
 abbrev pub invariant-loop-line : goal.invariant-loop-line

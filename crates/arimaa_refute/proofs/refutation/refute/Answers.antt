@@ -2,8 +2,8 @@ use Rattle.std.proofs.Common.{◌≡◌, is_some, sym, ◌∙◌, ap, subst}
 use Rattle.std.specs.Prelude.{IfOk}
 use Rattle.arimaa_board.specs.declared.position.Position.{Position}
 use Rattle.arimaa_model.specs.Game.{barred_by}
-use Rattle.arimaa_model.proofs.Present.{present-some}
-use Rattle.arimaa_strategy.proofs.CheckLaws.{some_same}
+use Rattle.arimaa_model.proofs.Lemmas.Present.{present-some}
+use Rattle.arimaa_strategy.proofs.Lemmas.CheckLaws.{some_same}
 use Rattle.arimaa_refute.specs.Refutations.{Terms, IsRefuted}
 use Rattle.arimaa_refute.proofs.RefutationLaws.{answer-same, refuted-done}
 use Rattle.arimaa_refute.proofs.refutation.refute.Goals as goal

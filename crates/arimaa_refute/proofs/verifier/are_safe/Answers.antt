@@ -1,6 +1,6 @@
 use Rattle.std.proofs.Common.{sym, ◌∙◌, arith}
 use Rattle.arimaa_region.specs.Segments.{live_of, segment_of}
-use Rattle.arimaa_strategy.proofs.Looks.{next_of}
+use Rattle.arimaa_strategy.proofs.Lemmas.Looks.{next_of}
 use Rattle.arimaa_refute.specs.Escapes.{is_safe}
 use Rattle.arimaa_refute.proofs.Waiting.{all-more, all-stop, all-end}
 use Rattle.arimaa_refute.proofs.verifier.are_safe.Goals as goal

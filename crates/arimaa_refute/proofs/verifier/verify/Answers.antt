@@ -1,6 +1,6 @@
 use Rattle.std.proofs.Common.{◌≡◌, ◌∙◌, sym}
 use Rattle.arimaa_model.specs.Game.{barred_by}
-use Rattle.arimaa_strategy.proofs.CheckLaws.{some_same}
+use Rattle.arimaa_strategy.proofs.Lemmas.CheckLaws.{some_same}
 use Rattle.arimaa_refute.specs.Findings.{verified_of}
 use Rattle.arimaa_refute.proofs.VerifyLaws.{answer-verified}
 use Rattle.arimaa_refute.proofs.verifier.verify.Goals as goal

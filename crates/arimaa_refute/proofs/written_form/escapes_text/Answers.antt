@@ -1,4 +1,4 @@
-use Rattle.arimaa_refute.proofs.EscapeReading.{escapes-back, ok-weaker}
+use Rattle.arimaa_refute.proofs.Lemmas.EscapeReading.{escapes-back, ok-weaker}
 use Rattle.arimaa_refute.proofs.written_form.escapes_text.Goals as goal
 
 pub returns-clause-reads_back : goal.returns-clause-reads_back

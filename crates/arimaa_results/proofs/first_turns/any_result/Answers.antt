@@ -1,7 +1,7 @@
 use Rattle.std.proofs.Common.{◌∙◌, sym, not, Bool}
 use Rattle.arimaa_board.specs.declared.position.Position.{Position}
 use Rattle.arimaa_model.specs.Results.{results, stands_in}
-use Rattle.arimaa_results.proofs.Found.{any-filter, filter-any}
+use Rattle.arimaa_results.proofs.Lemmas.Found.{any-filter, filter-any}
 use Rattle.arimaa_results.proofs.first_turns.any_result.Goals as goal
 
 pub returns : goal.returns

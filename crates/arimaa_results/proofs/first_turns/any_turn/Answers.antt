@@ -1,6 +1,6 @@
 use Rattle.std.proofs.Common.{◌∙◌, sym}
 use Rattle.arimaa_model.specs.Results.{results}
-use Rattle.arimaa_results.proofs.Found.{any-positive, positive-any}
+use Rattle.arimaa_results.proofs.Lemmas.Found.{any-positive, positive-any}
 use Rattle.arimaa_results.proofs.first_turns.any_turn.Goals as goal
 
 pub returns : goal.returns

@@ -1,7 +1,7 @@
 use Rattle.std.proofs.Common.{◌∙◌, sym}
 use Rattle.std.proofs.lemmas.Option.{IfSome_then}
 use Rattle.arimaa_model.specs.Results.{results}
-use Rattle.arimaa_results.proofs.Found.{first_turn-is, any-stands, brings-reached}
+use Rattle.arimaa_results.proofs.Lemmas.Found.{first_turn-is, any-stands, brings-reached}
 use Rattle.arimaa_results.proofs.first_turns.first_turn.Goals as goal
 
 pub returns-clause-first : goal.returns-clause-first

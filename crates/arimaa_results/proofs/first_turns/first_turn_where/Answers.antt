@@ -2,9 +2,9 @@ use Rattle.std.proofs.Common.{◌≡◌, [], sym, ap, ◌∙◌, arith, Option, 
 use Rattle.arimaa_board.specs.declared.position.Step.{Step}
 use Rattle.arimaa_results.specs.Conditions.{first_passing}
 use Rattle.arimaa_results.specs.Walk.{first_after, found_from}
-use Rattle.arimaa_results.proofs.Given.{number_more, number_found, numbers_end}
+use Rattle.arimaa_results.proofs.Lemmas.Given.{number_more, number_found, numbers_end}
 use Rattle.arimaa_results.proofs.Reached.{first_passing-is, found-first}
-use Rattle.arimaa_results.proofs.Found.{found_some, first_passing-brings}
+use Rattle.arimaa_results.proofs.Lemmas.Found.{found_some, first_passing-brings}
 use Rattle.arimaa_results.proofs.first_turns.first_turn_where.Goals as goal
 
 pub loop-steps-init : goal.loop-steps-init

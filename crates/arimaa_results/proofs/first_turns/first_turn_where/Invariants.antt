@@ -1,7 +1,7 @@
 use Rattle.std.proofs.Common.{◌≡◌, []}
 use Rattle.arimaa_results.specs.Conditions.{first_passing}
 use Rattle.arimaa_results.specs.Walk.{first_after}
-use Rattle.arimaa_results.proofs.Given.{first_among}
+use Rattle.arimaa_results.proofs.Lemmas.Given.{first_among}
 use Rattle.arimaa_results.proofs.first_turns.first_turn_where.Given as goal
 
 -- what the lengths left give first is what all give first

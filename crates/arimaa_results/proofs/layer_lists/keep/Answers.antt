@@ -4,7 +4,7 @@ use Rattle.arimaa_region.specs.Placement.{is_full}
 use Rattle.arimaa_region.specs.Placing.{with_words}
 use Rattle.arimaa_region.specs.Same.{same_words, same_words-Decides, stands_in}
 use Rattle.arimaa_region.specs.Segments.{Held, Stacked, top}
-use Rattle.arimaa_region.proofs.Standing.{stands_in-Decides}
+use Rattle.arimaa_region.proofs.Lemmas.Standing.{stands_in-Decides}
 use Rattle.arimaa_results.specs.Layers.{IsKept}
 use Rattle.arimaa_results.proofs.Adding.{added-full}
 use Rattle.arimaa_results.proofs.layer_lists.keep.Goals as goal

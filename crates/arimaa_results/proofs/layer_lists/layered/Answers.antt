@@ -10,7 +10,7 @@ use Rattle.arimaa_results.specs.Layers.{layers_to, brought_from}
 use Rattle.arimaa_results.specs.Stops.{for_won, is_room, is_work, is_won}
 use Rattle.arimaa_results.proofs.Distinct.{layers-distinct}
 use Rattle.arimaa_results.proofs.Layers.{layered-firsts}
-use Rattle.arimaa_results.proofs.Opened.{opened_whole, opened_many}
+use Rattle.arimaa_results.proofs.Lemmas.Opened.{opened_whole, opened_many}
 use Rattle.arimaa_results.proofs.Stage.{if_room, if_work}
 use Rattle.arimaa_results.proofs.layer_lists.layered.Goals as goal
 

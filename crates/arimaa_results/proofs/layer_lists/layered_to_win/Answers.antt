@@ -8,7 +8,7 @@ use Rattle.arimaa_results.specs.Additions.{IsFilled}
 use Rattle.arimaa_results.specs.Layers.{brought_from}
 use Rattle.arimaa_results.specs.Stops.{is_room, is_won}
 use Rattle.arimaa_results.proofs.Layers.{layered-firsts}
-use Rattle.arimaa_results.proofs.Opened.{opened_many, opened_below, opened_count, opened_room, opened_begun, opened_top, listed_whole, listed_part}
+use Rattle.arimaa_results.proofs.Lemmas.Opened.{opened_many, opened_below, opened_count, opened_room, opened_begun, opened_top, listed_whole, listed_part}
 use Rattle.arimaa_results.proofs.layer_lists.layered_to_win.Goals as goal
 
 pub returns-in-Ok-clause-opened : goal.returns-in-Ok-clause-opened

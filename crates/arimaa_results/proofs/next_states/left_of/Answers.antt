@@ -1,5 +1,5 @@
 use Rattle.arimaa_board.specs.Masks.{is_in}
-use Rattle.arimaa_board.proofs.MaskLaws.{own_mask}
+use Rattle.arimaa_board.proofs.Lemmas.MaskLaws.{own_mask}
 use Rattle.arimaa_results.proofs.FirstSteps.{without_taken}
 use Rattle.arimaa_results.proofs.next_states.left_of.Goals as goal
 

@@ -6,7 +6,7 @@ use Rattle.arimaa_region.specs.Placement.{is_full}
 use Rattle.arimaa_region.specs.Placing.{with_placed}
 use Rattle.arimaa_region.specs.Same.{same_position, same_position-Decides, stands_in}
 use Rattle.arimaa_region.specs.Segments.{Held, top}
-use Rattle.arimaa_region.proofs.Standing.{stands_in-Decides}
+use Rattle.arimaa_region.proofs.Lemmas.Standing.{stands_in-Decides}
 use Rattle.arimaa_results.specs.Additions.{IsFilled}
 use Rattle.arimaa_results.specs.Ahead.{allowed}
 use Rattle.arimaa_results.proofs.Adding.{added-full}

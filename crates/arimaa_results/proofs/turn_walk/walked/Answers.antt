@@ -4,7 +4,7 @@ use Rattle.arimaa_region.specs.Segments.{Held}
 use Rattle.arimaa_model.specs.Results.{next}
 use Rattle.arimaa_results.proofs.Adding.{added_ok, added_err}
 use Rattle.arimaa_results.proofs.Next.{next-firsts}
-use Rattle.arimaa_results.proofs.Opened.{opened, opened_whole, opened_many}
+use Rattle.arimaa_results.proofs.Lemmas.Opened.{opened, opened_whole, opened_many}
 use Rattle.arimaa_results.proofs.turn_walk.walked.Goals as goal
 
 pub returns-in-Ok-clause-filled : goal.returns-in-Ok-clause-filled

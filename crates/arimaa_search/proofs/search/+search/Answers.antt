@@ -8,19 +8,19 @@ use Rattle.arimaa_board.specs.Board.{same_color}
 use Rattle.arimaa_board.specs.declared.position.Position.{Position}
 use Rattle.arimaa_model.specs.Results.{next}
 use Rattle.arimaa_model.specs.Wins.{wins}
-use Rattle.arimaa_model.proofs.WinsLaws.{wins-decided}
+use Rattle.arimaa_model.proofs.Lemmas.WinsLaws.{wins-decided}
 use Rattle.arimaa_region.specs.Segments.{live_of, top}
 use Rattle.arimaa_table.specs.Passes.{setting_of, lines_of, steps_of}
 use Rattle.arimaa_forced.specs.Search.{is_decisive, cost}
-use Rattle.arimaa_forced.proofs.Deeper.{cost-some, crowd-deeper}
-use Rattle.arimaa_forced.proofs.Midst.{Midst, midst-start, midst-more, midst-paid}
+use Rattle.arimaa_forced.proofs.Lemmas.Deeper.{cost-some, crowd-deeper}
+use Rattle.arimaa_forced.proofs.Lemmas.Midst.{Midst, midst-start, midst-more, midst-paid}
 use Rattle.arimaa_search.specs.PaidAnswers.{Answered}
-use Rattle.arimaa_search.proofs.Lists.{after_first, live-length, first_left, none_left, part_length}
+use Rattle.arimaa_search.proofs.Lemmas.Lists.{after_first, live-length, first_left, none_left, part_length}
 use Rattle.arimaa_search.proofs.Looking.{decisive-answer, end-answer, stopped-answer, early-answer, midst-past, decisive-by}
 use Rattle.arimaa_search.proofs.WonPositions.{none_won, after_part}
 use Rattle.arimaa_search.proofs.Tracing.{Tracing, tracing_start, tracing_more, tracing_past, tracing_decisive, tracing_end}
 use Rattle.arimaa_search.proofs.search.+search.Goals as goal
-use Rattle.arimaa_results.proofs.Opened.{two_parts}
+use Rattle.arimaa_results.proofs.Lemmas.Opened.{two_parts}
 
 pub open_up-returns-then-left-eq0-clause-answer : goal.open_up-returns-then-left-eq0-clause-answer
 open_up-returns-then-left-eq0-clause-answer t c =

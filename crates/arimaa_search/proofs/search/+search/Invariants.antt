@@ -5,7 +5,7 @@ use Rattle.arimaa_model.specs.Results.{next}
 use Rattle.arimaa_region.specs.Segments.{live_of, top}
 use Rattle.arimaa_table.specs.Passes.{setting_of, lines_of, steps_of, IsPassOf, KeepsNoOlder, NoFewer}
 use Rattle.arimaa_forced.specs.Search.{cost, is_decisive}
-use Rattle.arimaa_forced.proofs.Midst.{Midst}
+use Rattle.arimaa_forced.proofs.Lemmas.Midst.{Midst}
 use Rattle.arimaa_search.specs.Traces.{GoesPast, Stepped}
 use Rattle.arimaa_search.proofs.Tracing.{Tracing}
 use Rattle.arimaa_search.proofs.search.+search.Given as goal

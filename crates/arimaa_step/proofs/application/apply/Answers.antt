@@ -1,6 +1,6 @@
 use Rattle.std.proofs.Common.{◌≡◌, ◌∙◌, ap}
 use Rattle.arimaa_model.specs.Faults.{applied}
-use Rattle.arimaa_step.proofs.Outcomes.{apply_law}
+use Rattle.arimaa_step.proofs.Lemmas.Outcomes.{apply_law}
 use Rattle.arimaa_step.proofs.application.apply.Goals as goal
 
 pub returns-clause-turn : goal.returns-clause-turn

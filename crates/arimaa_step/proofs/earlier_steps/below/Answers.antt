@@ -1,5 +1,5 @@
 use Rattle.std.proofs.Common.{ℕ, ◌&&◌}
-use Rattle.arimaa_board.proofs.MaskLaws.{and_mask}
+use Rattle.arimaa_board.proofs.Lemmas.MaskLaws.{and_mask}
 use Rattle.std.specs.Prelude.{nat_lt}
 use Rattle.arimaa_board.specs.Square.{next_square}
 use Rattle.arimaa_board.specs.Masks.{passes}

@@ -1,4 +1,4 @@
-use Rattle.arimaa_board.proofs.MaskLaws.{and_mask}
+use Rattle.arimaa_board.proofs.Lemmas.MaskLaws.{and_mask}
 use Rattle.arimaa_step.proofs.earlier_steps.common.Goals as goal
 
 pub returns : goal.returns

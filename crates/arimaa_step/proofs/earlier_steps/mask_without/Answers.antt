@@ -1,6 +1,6 @@
 use Rattle.std.proofs.Common.{◌<◌, ◌^◌, arith}
 use Rattle.std.specs.Prelude.{not}
-use Rattle.arimaa_board.proofs.MaskLaws.{and_mask, not_mask}
+use Rattle.arimaa_board.proofs.Lemmas.MaskLaws.{and_mask, not_mask}
 use Rattle.arimaa_step.proofs.earlier_steps.mask_without.Goals as goal
 
 pub returns : goal.returns

@@ -1,4 +1,4 @@
-use Rattle.arimaa_model.proofs.RelatedMoves.{frozen-Decides}
+use Rattle.arimaa_model.proofs.Lemmas.RelatedMoves.{frozen-Decides}
 use Rattle.arimaa_step.proofs.frozen_pieces.frozen.Goals as goal
 
 pub returns-clause-rule : goal.returns-clause-rule

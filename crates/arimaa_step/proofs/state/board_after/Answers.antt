@@ -1,5 +1,5 @@
 use Rattle.std.proofs.Common.{refl}
-use Rattle.arimaa_step.proofs.AnswerLaws.{fits_there}
+use Rattle.arimaa_step.proofs.Lemmas.AnswerLaws.{fits_there}
 use Rattle.arimaa_step.proofs.state.board_after.Goals as goal
 
 pub board_by-requires : goal.board_by-requires

@@ -2,7 +2,7 @@ use Rattle.std.proofs.Common.{◌≡◌, Some, sym, ◌∙◌, ap}
 use Rattle.arimaa_board.specs.Board.{moved, settle}
 use Rattle.arimaa_board.specs.Square.{next_square}
 use Rattle.arimaa_step.proofs.state.board_by.Goals as goal
-use Rattle.arimaa_model.proofs.Pushers.{after_is}
+use Rattle.arimaa_model.proofs.Lemmas.Pushers.{after_is}
 
 pub number_beside-requires-clause-inside : goal.number_beside-requires-clause-inside
 number_beside-requires-clause-inside c = rw c.number.ensures.value c.requires

@@ -1,7 +1,7 @@
 use Rattle.std.proofs.Common.{◌≡◌, ◌∙◌, sym, Some}
 use Rattle.arimaa_model.specs.Game.{barred_by, present}
 use Rattle.arimaa_strategy.specs.Findings.{checked_of}
-use Rattle.arimaa_strategy.proofs.CheckLaws.{some_same, answer_is_checked, accepted_wins}
+use Rattle.arimaa_strategy.proofs.Lemmas.CheckLaws.{some_same, answer_is_checked, accepted_wins}
 use Rattle.arimaa_strategy.proofs.checker.check.Goals as goal
 
 pub returns-clause-checked : goal.returns-clause-checked

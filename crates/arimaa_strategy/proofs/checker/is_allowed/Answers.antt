@@ -1,6 +1,6 @@
 use Rattle.std.proofs.Common.{◌∙◌, ap, not}
 use Rattle.arimaa_board.specs.NotedTurns.{noted_turn}
-use Rattle.arimaa_model.proofs.Listed.{next-allowed}
+use Rattle.arimaa_model.proofs.Lemmas.Listed.{next-allowed}
 use Rattle.arimaa_strategy.proofs.checker.is_allowed.Goals as goal
 
 pub returns : goal.returns

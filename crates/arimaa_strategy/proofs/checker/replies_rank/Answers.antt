@@ -1,7 +1,7 @@
 use Rattle.std.proofs.Common.{◌+◌, sym, subst, ℕ, arith}
 use Rattle.arimaa_region.specs.Segments.{live_of, segment_of}
 use Rattle.arimaa_strategy.specs.Entries.{plan_of}
-use Rattle.arimaa_strategy.proofs.Looks.{Midst, next_of, midst_start, midst_more, midst_open, midst_end}
+use Rattle.arimaa_strategy.proofs.Lemmas.Looks.{Midst, next_of, midst_start, midst_more, midst_open, midst_end}
 use Rattle.arimaa_strategy.proofs.checker.replies_rank.Goals as goal
 
 pub loop-k-init : goal.loop-k-init

@@ -1,7 +1,7 @@
 use Rattle.std.proofs.Common.{◌≤◌}
 use Rattle.arimaa_region.specs.Segments.{segment_of}
 use Rattle.arimaa_strategy.specs.Entries.{plan_of}
-use Rattle.arimaa_strategy.proofs.Looks.{Midst}
+use Rattle.arimaa_strategy.proofs.Lemmas.Looks.{Midst}
 use Rattle.arimaa_strategy.proofs.checker.replies_rank.Given as goal
 
 abbrev pub invariant-loop-k : goal.invariant-loop-k

@@ -2,7 +2,7 @@ use Rattle.std.proofs.Common.{◌≡◌, ◌∙◌, sym, ap, subst, take, drop, 
 use Rattle.arimaa_board.specs.Text.{IsBoardText}
 use Rattle.arimaa_notation.specs.Grammar.{IsTurnText}
 use Rattle.arimaa_notation.specs.Items.{without_first_blanks}
-use Rattle.arimaa_strategy.proofs.EntryLines.{front_of, back_of, joined_again}
+use Rattle.arimaa_strategy.proofs.Lemmas.EntryLines.{front_of, back_of, joined_again}
 use Rattle.arimaa_strategy.proofs.entry_line.read_board_and_turn.Goals as goal
 
 pub returns-in_default-clause-none : goal.returns-in_default-clause-none

@@ -1,8 +1,8 @@
 use Rattle.std.proofs.Common.{◌≡◌, ◌∙◌, [], ◌∷◌, sym, subst, refl}
 use Rattle.std.specs.Fmt.{decimal}
 use Rattle.arimaa_notation.specs.Items.{items_of, IsFirstItem}
-use Rattle.arimaa_notation.proofs.ItemLaws.{items-first}
-use Rattle.arimaa_strategy.proofs.EntryLines.{rank_of}
+use Rattle.arimaa_notation.proofs.Lemmas.ItemLaws.{items-first}
+use Rattle.arimaa_strategy.proofs.Lemmas.EntryLines.{rank_of}
 use Rattle.arimaa_strategy.proofs.entry_line.read_entry.Goals as goal
 
 pub returns-in_default-clause-none : goal.returns-in_default-clause-none

@@ -7,7 +7,7 @@ use Rattle.std.proofs.Common.{Some}
 use Rattle.arimaa_board.specs.declared.position.Position.{Position}
 use Rattle.arimaa_model.specs.DecidedPositions.{decided}
 use Rattle.arimaa_model.specs.Results.{first_occurrences}
-use Rattle.arimaa_model.proofs.Reaching.{first_occurrences-append}
+use Rattle.arimaa_model.proofs.Lemmas.Reaching.{first_occurrences-append}
 use Rattle.arimaa_region.specs.Segments.{live_of}
 use Rattle.arimaa_strategy.proofs.queue.meet_all.Goals as goal
 

@@ -1,4 +1,4 @@
-use Rattle.arimaa_strategy.proofs.TextReading.{entries_read, bad_read}
+use Rattle.arimaa_strategy.proofs.Lemmas.TextReading.{entries_read, bad_read}
 use Rattle.arimaa_strategy.proofs.reader.read_strategy.Goals as goal
 
 pub returns-clause-no_other : goal.returns-clause-no_other

@@ -1,6 +1,6 @@
 use Rattle.std.proofs.Common.{None, Some, sym}
 use Rattle.std.proofs.lemmas.List.{append-nil}
-use Rattle.arimaa_strategy.proofs.TextReading.{midst-start, midst-more, midst-end}
+use Rattle.arimaa_strategy.proofs.Lemmas.TextReading.{midst-start, midst-more, midst-end}
 use Rattle.arimaa_strategy.proofs.reader.reading.Goals as goal
 
 pub loop-line-init : goal.loop-line-init

@@ -1,5 +1,5 @@
 use Rattle.std.proofs.Common.{length}
-use Rattle.arimaa_strategy.proofs.TextReading.{Midst}
+use Rattle.arimaa_strategy.proofs.Lemmas.TextReading.{Midst}
 use Rattle.arimaa_strategy.proofs.reader.reading.Given as goal
 
 abbrev pub invariant-loop-line : goal.invariant-loop-line

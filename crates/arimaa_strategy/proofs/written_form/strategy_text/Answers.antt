@@ -1,6 +1,6 @@
 use Rattle.std.proofs.Common.{◌≡◌, List, take, ◌∙◌, ap, subst, take_all}
 use Rattle.std.specs.List.{AllByRecursion}
-use Rattle.arimaa_notation.proofs.ReadingBack.{all_more}
+use Rattle.arimaa_notation.proofs.Lemmas.ReadingBack.{all_more}
 use Rattle.arimaa_forced.specs.declared.entry.Entry.{Entry}
 use Rattle.arimaa_strategy.specs.WrittenForm.{text_of_strategy}
 use Rattle.arimaa_strategy.proofs.ReadingBack.{ReadsBack, strategy_more, strategy_back}

@@ -1,4 +1,4 @@
-use Rattle.arimaa_time.proofs.Controls.{read_laws}
+use Rattle.arimaa_time.proofs.Lemmas.Controls.{read_laws}
 use Rattle.arimaa_time.proofs.reader.read_control.Goals as goal
 
 pub returns-clause-read : goal.returns-clause-read

@@ -2,8 +2,8 @@ use Rattle.std.proofs.Common.{◌&&◌}
 use Rattle.std.specs.Prelude.{◌||◌, not, is_some}
 use Rattle.arimaa_board.specs.Board.{at}
 use Rattle.arimaa_board.specs.Masks.{holds_kind, holds_above, holds_below}
-use Rattle.arimaa_board.proofs.MaskLaws.{and_mask, or_mask, not_mask, like_mask}
-use Rattle.arimaa_board.proofs.Masks.{below_else, or_fits}
+use Rattle.arimaa_board.proofs.Lemmas.MaskLaws.{and_mask, or_mask, not_mask, like_mask}
+use Rattle.arimaa_board.proofs.Lemmas.Masks.{below_else, or_fits}
 use Rattle.arimaa_board.proofs.board.Board.below.Goals as goal
 
 pub returns : goal.returns

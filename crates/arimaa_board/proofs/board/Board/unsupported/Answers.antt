@@ -2,7 +2,7 @@ use Rattle.std.proofs.Common.{sym}
 use Rattle.std.specs.Prelude.{not, is_some}
 use Rattle.arimaa_board.specs.Board.{at}
 use Rattle.arimaa_board.specs.Masks.{stays}
-use Rattle.arimaa_board.proofs.MaskLaws.{and_mask, not_mask}
+use Rattle.arimaa_board.proofs.Lemmas.MaskLaws.{and_mask, not_mask}
 use Rattle.arimaa_board.proofs.Settling.{none_lost}
 use Rattle.arimaa_board.proofs.board.Board.unsupported.Goals as goal
 

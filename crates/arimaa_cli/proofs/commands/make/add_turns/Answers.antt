@@ -2,7 +2,7 @@ use Rattle.std.proofs.Common.{◌≡◌, ◌+◌, ◌-◌, suc, None, sym, ◌�
 use Rattle.std.specs.Prelude.{Ok, Err}
 use Rattle.arimaa_game.specs.Play.{Play}
 use Rattle.arimaa_model.specs.Game.{barred_by, ending}
-use Rattle.arimaa_model.proofs.Listed.{result-turn}
+use Rattle.arimaa_model.proofs.Lemmas.Listed.{result-turn}
 use Rattle.arimaa_cli.specs.Commands.Make.{GoesOnAt, IsMadeFrom}
 use Rattle.arimaa_cli.specs.Commands.Make.IsMadeFrom.{crowded, enough, over}
 use Rattle.arimaa_cli.proofs.Generator.{made_on, open_ending, some_next}

@@ -1,6 +1,6 @@
 use Rattle.std.proofs.Common.{◌≡◌, ◌∷◌, ◌/◌, ◌^◌, [], length, ◌≤◌, sym, ◌∙◌, ap, arith, true≢false}
 use Rattle.arimaa_model.specs.Results.{next, results}
-use Rattle.arimaa_model.proofs.Positions.{In-stands, next-results}
+use Rattle.arimaa_model.proofs.Lemmas.Positions.{In-stands, next-results}
 use Rattle.arimaa_cli.specs.declared.commands.make.TheConstants.{MOST_PLACES}
 use Rattle.arimaa_region.specs.Segments.{live_of}
 use Rattle.arimaa_cli.proofs.Generator.{in_at, same_place}

@@ -1,6 +1,6 @@
 use Rattle.std.proofs.Common.{ap, is_some}
 use Rattle.std.proofs.lemmas.Result.{IfOk-weaker}
-use Rattle.arimaa_game.proofs.Endings.{present-some}
+use Rattle.arimaa_game.proofs.Lemmas.Endings.{present-some}
 use Rattle.arimaa_cli.specs.Positions.IsAnswerAt.{told, unasked}
 use Rattle.arimaa_cli.proofs.commands.refute.game_answer.Goals as goal
 

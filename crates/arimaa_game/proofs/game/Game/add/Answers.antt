@@ -1,8 +1,8 @@
 use Rattle.std.proofs.Common.{◌≡◌, ◌∙◌, ◌∷◌, ◌++◌, ◌≤◌, [], ap, rules, subst, sym, None}
 use Rattle.arimaa_model.specs.Game.{IsLawful, count_in, present}
-use Rattle.arimaa_model.proofs.Present.{present-push}
+use Rattle.arimaa_model.proofs.Lemmas.Present.{present-push}
 use Rattle.arimaa_game.specs.Play.{Play, ending_of}
-use Rattle.arimaa_game.proofs.Endings.{ending-present, kept-grown, running-rules, running-unclosed}
+use Rattle.arimaa_game.proofs.Lemmas.Endings.{ending-present, kept-grown, running-rules, running-unclosed}
 use Rattle.arimaa_game.proofs.game.Game.add.Goals as goal
 
 pub invariant_of-self : goal.invariant_of-self

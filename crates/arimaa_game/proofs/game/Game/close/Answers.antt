@@ -2,7 +2,7 @@ use Rattle.std.proofs.Common.{◌≡◌, ◌∙◌, ap, sym, false, Some}
 use Rattle.std.specs.Prelude.{is_some}
 use Rattle.arimaa_model.specs.Game.{present}
 use Rattle.arimaa_game.specs.Play.{Play}
-use Rattle.arimaa_game.proofs.Endings.{kept-closed}
+use Rattle.arimaa_game.proofs.Lemmas.Endings.{kept-closed}
 use Rattle.arimaa_game.proofs.game.Game.close.Goals as goal
 
 pub invariant_of-self : goal.invariant_of-self

@@ -1,4 +1,4 @@
-use Rattle.arimaa_game.proofs.Endings.{kept-begun}
+use Rattle.arimaa_game.proofs.Lemmas.Endings.{kept-begun}
 use Rattle.arimaa_game.proofs.game.Game.from_start.Goals as goal
 
 pub invariant_of-result : goal.invariant_of-result

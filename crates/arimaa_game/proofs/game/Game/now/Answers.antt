@@ -2,7 +2,7 @@ use Rattle.std.proofs.Common.{◌≡◌, ◌∙◌, sym, Some}
 use Rattle.arimaa_board.specs.Fit.{IsFit}
 use Rattle.arimaa_board.specs.declared.position.Position.{Position}
 use Rattle.arimaa_model.specs.Game.{present}
-use Rattle.arimaa_history.proofs.Present.{present-holds}
+use Rattle.arimaa_history.proofs.Lemmas.Present.{present-holds}
 use Rattle.arimaa_game.proofs.game.Game.now.Goals as goal
 
 pub returns-clause-fit : goal.returns-clause-fit

@@ -1,7 +1,7 @@
 use Rattle.std.proofs.Common.{◌∙◌, ap, refl}
 use Rattle.std.proofs.lemmas.Result.{err_from_is_err_and}
 use Rattle.arimaa_game.specs.Faults.{rule_of_answer}
-use Rattle.arimaa_game.proofs.Turns.{first-rule, third-rule}
+use Rattle.arimaa_game.proofs.Lemmas.Turns.{first-rule, third-rule}
 use Rattle.arimaa_game.proofs.game.Game.play.Goals as goal
 
 pub returns-in_err-reached-clause-first : goal.returns-in_err-reached-clause-first

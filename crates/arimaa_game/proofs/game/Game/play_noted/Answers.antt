@@ -4,7 +4,7 @@ use Rattle.arimaa_board.specs.declared.position.Position.{Position}
 use Rattle.arimaa_model.specs.Marks.{marks_right}
 use Rattle.arimaa_game.specs.Faults.{rule_of_answer}
 use Rattle.arimaa_game.specs.Play.{played, unless_marked}
-use Rattle.arimaa_game.proofs.Turns.{unmarked-rule}
+use Rattle.arimaa_game.proofs.Lemmas.Turns.{unmarked-rule}
 use Rattle.arimaa_game.proofs.game.Game.play_noted.Goals as goal
 
 pub returns-else-marks_fit-clause-first : goal.returns-else-marks_fit-clause-first

@@ -1,7 +1,7 @@
 use Rattle.std.proofs.Common.{◌≡◌, ◌∙◌, ap, sym, subst, true, false}
 use Rattle.std.specs.Prelude.{is_some}
 use Rattle.arimaa_game.specs.Play.{IsGame, ending_of}
-use Rattle.arimaa_game.proofs.Turns.{played-fault, played-over, reaches}
+use Rattle.arimaa_game.proofs.Lemmas.Turns.{played-fault, played-over, reaches}
 use Rattle.arimaa_game.proofs.game.Game.reached.Goals as goal
 
 pub returns-then-is_some-clause-fault : goal.returns-then-is_some-clause-fault

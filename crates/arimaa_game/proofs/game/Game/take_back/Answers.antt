@@ -1,6 +1,6 @@
 use Rattle.std.proofs.Common.{◌≡◌, ◌∙◌, ◌+◌, length, ap, sym}
 use Rattle.arimaa_game.specs.Play.{Play}
-use Rattle.arimaa_game.proofs.Endings.{taken-back}
+use Rattle.arimaa_game.proofs.Lemmas.Endings.{taken-back}
 use Rattle.arimaa_game.proofs.game.Game.take_back.Goals as goal
 
 pub invariant_of-self : goal.invariant_of-self

@@ -3,7 +3,7 @@ use Rattle.arimaa_board.specs.declared.position.Position.{Position}
 use Rattle.arimaa_model.specs.Members.{AreDistinct}
 use Rattle.arimaa_model.specs.Results.{stands_in}
 use Rattle.arimaa_model.specs.Game.{barred_by}
-use Rattle.arimaa_model.proofs.Barring.{barred-distinct, barred-twice, twice-barred}
+use Rattle.arimaa_model.proofs.Lemmas.Barring.{barred-distinct, barred-twice, twice-barred}
 use Rattle.arimaa_history.proofs.history.History.barred.Goals as goal
 
 pub returns : goal.returns

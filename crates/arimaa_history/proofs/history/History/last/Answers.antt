@@ -1,7 +1,7 @@
 use Rattle.std.proofs.Common.{◌≡◌, ◌∙◌, ◌-◌, sym, ap, List, length}
 use Rattle.std.specs.List.{slice_get}
 use Rattle.arimaa_board.specs.declared.position.Position.{Position}
-use Rattle.arimaa_history.proofs.Present.{present-last}
+use Rattle.arimaa_history.proofs.Lemmas.Present.{present-last}
 use Rattle.arimaa_history.proofs.history.History.last.Goals as goal
 
 pub returns : goal.returns

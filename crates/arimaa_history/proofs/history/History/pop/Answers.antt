@@ -1,7 +1,7 @@
 use Rattle.std.proofs.Common.{◌∙◌, ℕ, ◌≤◌, sym, subst, arith, rules}
 use Rattle.std.proofs.lemmas.Bool.Decides.{nat_tests}
 use Rattle.arimaa_model.specs.Members.{AreDistinct}
-use Rattle.arimaa_model.proofs.Barring.{barred-distinct}
+use Rattle.arimaa_model.proofs.Lemmas.Barring.{barred-distinct}
 use Rattle.arimaa_history.proofs.LastPositions.{kept_none, kept_once, kept_often}
 use Rattle.arimaa_history.proofs.history.History.pop.Goals as goal
 

@@ -2,7 +2,7 @@ use Rattle.std.proofs.Common.{rules, ◌≡◌, ℕ, true, ap, subst, sym, inr}
 use Rattle.atomic_table.specs.Table.{Me}
 use Rattle.arimaa_jobs.specs.declared.view.SeatView.{SeatView}
 use Rattle.arimaa_jobs.specs.Rule.{ends_above}
-use Rattle.arimaa_jobs.proofs.Counts.{drew-dry}
+use Rattle.arimaa_jobs.proofs.Lemmas.Counts.{drew-dry}
 use Rattle.arimaa_jobs.proofs.RuleSteps.{claims}
 use Rattle.arimaa_jobs.proofs.jobs.Jobs.claim.Goals as goal
 

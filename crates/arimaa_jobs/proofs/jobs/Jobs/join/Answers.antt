@@ -2,7 +2,7 @@ use Rattle.std.proofs.Common.{rules, ◌≡◌, ℕ, true, ap, subst, sym, arith
 use Rattle.atomic_table.specs.Table.{Me}
 use Rattle.arimaa_jobs.specs.declared.view.SeatView.{SeatView}
 use Rattle.arimaa_jobs.specs.Rule.{ends_above}
-use Rattle.arimaa_jobs.proofs.Counts.{ends-append}
+use Rattle.arimaa_jobs.proofs.Lemmas.Counts.{ends-append}
 use Rattle.arimaa_jobs.proofs.RuleSteps.{joins}
 use Rattle.arimaa_jobs.proofs.jobs.Jobs.join.Goals as goal
 

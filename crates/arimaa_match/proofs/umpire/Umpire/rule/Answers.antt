@@ -1,6 +1,6 @@
 use Rattle.std.proofs.Common.{ap, refl, sym}
 use Rattle.std.specs.Prelude.{not}
-use Rattle.arimaa_notation.proofs.SetupRule.{setup_named}
+use Rattle.arimaa_notation.proofs.Lemmas.SetupRule.{setup_named}
 use Rattle.arimaa_match.proofs.umpire.Umpire.rule.Goals as goal
 
 pub book_setup-requires : goal.book_setup-requires

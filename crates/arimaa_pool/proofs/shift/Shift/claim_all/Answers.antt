@@ -2,7 +2,7 @@ use Rattle.std.proofs.Common.{◌-◌, sym, ap, subst, arith}
 use Rattle.arimaa_jobs.specs.declared.view.SeatView.{SeatView}
 use Rattle.arimaa_jobs.specs.Rule.{Stands}
 use Rattle.arimaa_jobs.specs.Seats.{view}
-use Rattle.arimaa_jobs.proofs.SeatLaws.{past, fewer-left, stands-last}
+use Rattle.arimaa_jobs.proofs.Lemmas.SeatLaws.{past, fewer-left, stands-last}
 use Rattle.arimaa_pool.proofs.JobLaws.{worked-none}
 use Rattle.arimaa_pool.proofs.shift.Shift.claim_all.Goals as goal
 

@@ -1,6 +1,6 @@
 use Rattle.std.proofs.Common.{◌≡◌, ◌-◌}
 use Rattle.arimaa_jobs.specs.Seats.{IsSeatOf, view}
-use Rattle.arimaa_jobs.proofs.SeatLaws.{past}
+use Rattle.arimaa_jobs.proofs.Lemmas.SeatLaws.{past}
 use Rattle.arimaa_pool.specs.Jobs.{Worked}
 use Rattle.arimaa_pool.proofs.shift.Shift.claim_all.Given as goal
 

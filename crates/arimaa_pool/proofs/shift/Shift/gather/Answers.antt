@@ -4,7 +4,7 @@ use Rattle.std.proofs.lemmas.List.Elements.{All-pop}
 use Rattle.arimaa_jobs.specs.declared.view.SeatView.{SeatView}
 use Rattle.arimaa_jobs.specs.Rule.{ends_above, view_after_join}
 use Rattle.arimaa_jobs.specs.Seats.{view}
-use Rattle.arimaa_jobs.proofs.Counts.{ends-append}
+use Rattle.arimaa_jobs.proofs.Lemmas.Counts.{ends-append}
 use Rattle.arimaa_pool.specs.Jobs.{IsDoneWith, Worked, has_ended, earlier}
 use Rattle.arimaa_pool.specs.declared.seat.Seated.{Seated}
 use Rattle.arimaa_pool.specs.declared.stopped_job.StoppedJob.{StoppedJob}

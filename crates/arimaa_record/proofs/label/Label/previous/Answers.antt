@@ -1,6 +1,6 @@
 use Rattle.std.proofs.Common.{◌≡◌, ◌∙◌, ap, refl}
 use Rattle.arimaa_record.specs.Label.{previous_label}
-use Rattle.arimaa_record.proofs.LabelOrder.{previous-next}
+use Rattle.arimaa_record.proofs.Lemmas.LabelOrder.{previous-next}
 use Rattle.arimaa_record.proofs.label.Label.previous.Goals as goal
 
 pub returns-in-Gold-clause-back : goal.returns-in-Gold-clause-back

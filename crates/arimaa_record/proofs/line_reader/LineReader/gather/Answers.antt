@@ -1,6 +1,6 @@
 use Rattle.std.proofs.Common.{arith, refl, rules, [], ◌+◌}
 use Rattle.std.proofs.lemmas.List.{nil_from_length}
-use Rattle.arimaa_record.proofs.LineGathering.{midway-more, gathers-ended, takes-midway}
+use Rattle.arimaa_record.proofs.Lemmas.LineGathering.{midway-more, gathers-ended, takes-midway}
 use Rattle.arimaa_record.proofs.line_reader.LineReader.gather.Goals as goal
 
 pub pieces-preserved : goal.pieces-preserved

@@ -1,6 +1,6 @@
 use Rattle.std.proofs.Common.{◌≡◌, ◌≤◌, ◌-◌}
 use Rattle.arimaa_outside.specs.declared.source.TheConstants.{INPUT_LIMIT}
-use Rattle.arimaa_record.proofs.LineGathering.{Midway}
+use Rattle.arimaa_record.proofs.Lemmas.LineGathering.{Midway}
 use Rattle.arimaa_record.proofs.line_reader.LineReader.gather.Given as goal
 
 -- the bytes that came and were held before are the line so far and those that are held

@@ -1,6 +1,6 @@
 use Rattle.std.proofs.Common.{ℕ, ◌&&◌, ◌<◌, ◌^◌, subst, sym, arith}
 use Rattle.std.specs.Prelude.{◌||◌, not, is_some}
-use Rattle.arimaa_board.proofs.MaskLaws.{and_mask, or_mask, not_mask, like_mask}
+use Rattle.arimaa_board.proofs.Lemmas.MaskLaws.{and_mask, or_mask, not_mask, like_mask}
 use Rattle.arimaa_board.specs.declared.piece.Kind.TheVariants.{Rabbit}
 use Rattle.arimaa_board.specs.Piece.{piece_of}
 use Rattle.arimaa_board.specs.Square.{next_square}
@@ -8,7 +8,7 @@ use Rattle.arimaa_board.specs.Board.{at, holds}
 use Rattle.arimaa_board.specs.Masks.{IsMaskOf, passes}
 use Rattle.arimaa_model.specs.Moves.{is_back}
 use Rattle.arimaa_step.specs.AcceptedSteps.{ends_by, may_go, is_left, may_push, may_be_pulled}
-use Rattle.arimaa_step.proofs.AcceptedLaws.{is_ending, ending_marked}
+use Rattle.arimaa_step.proofs.Lemmas.AcceptedLaws.{is_ending, ending_marked}
 use Rattle.arimaa_step.proofs.accepted_steps.Movers.ending_towards.Goals as goal
 
 pub returns : goal.returns

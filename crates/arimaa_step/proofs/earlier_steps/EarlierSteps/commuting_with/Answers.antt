@@ -1,6 +1,6 @@
 use Rattle.std.proofs.Common.{ℕ}
 use Rattle.std.specs.Prelude.{not}
-use Rattle.arimaa_board.proofs.MaskLaws.{not_mask}
+use Rattle.arimaa_board.proofs.Lemmas.MaskLaws.{not_mask}
 use Rattle.arimaa_board.specs.declared.square.Dir.TheVariants.{North, East, South, West}
 use Rattle.arimaa_step.specs.CommutingSteps.{in_zone}
 use Rattle.arimaa_step.proofs.TurnedMasks.{commutes_mask, by_direction}

@@ -4,7 +4,7 @@ use Rattle.arimaa_board.specs.declared.square.Dir.{Dir}
 use Rattle.arimaa_board.specs.declared.square.Dir.TheVariants.{North, East, South, West}
 use Rattle.arimaa_board.specs.Masks.{bit_of, IsMaskOf}
 use Rattle.arimaa_step.specs.AcceptedSteps.{accepts}
-use Rattle.arimaa_step.proofs.AcceptedLaws.{full_refuses, by_direction}
+use Rattle.arimaa_step.proofs.Lemmas.AcceptedLaws.{full_refuses, by_direction}
 use Rattle.arimaa_step.proofs.state.TurnState.accepted.Goals as goal
 
 pub returns-then-self-ge4 : goal.returns-then-self-ge4

@@ -1,5 +1,5 @@
 use Rattle.arimaa_board.specs.Board.{at}
-use Rattle.arimaa_step.proofs.AnswerLaws.{ends_inside}
+use Rattle.arimaa_step.proofs.Lemmas.AnswerLaws.{ends_inside}
 use Rattle.arimaa_step.proofs.state.TurnState.finish_by.Goals as goal
 
 pub board_by-board-requires : goal.board_by-board-requires

@@ -1,10 +1,10 @@
 use Rattle.std.proofs.Common.{sym, ◌∙◌, ap, subst}
 use Rattle.std.specs.Prelude.{List, ℕ, slice_index}
 use Rattle.arimaa_board.specs.Planes.{ArePlaneList}
-use Rattle.arimaa_board.proofs.PlanesBack.{planes_of-valid}
+use Rattle.arimaa_board.proofs.Lemmas.PlanesBack.{planes_of-valid}
 use Rattle.arimaa_model.specs.Backward.{after_back}
 use Rattle.arimaa_step.specs.StateWords.{front_four, state_with, state_in_planes}
-use Rattle.arimaa_step.proofs.StateWordsLaws.{state_back_planes}
+use Rattle.arimaa_step.proofs.Lemmas.StateWordsLaws.{state_back_planes}
 use Rattle.arimaa_step.proofs.state.TurnState.from_planes.Goals as goal
 
 pub from_planes-board-requires : goal.from_planes-board-requires

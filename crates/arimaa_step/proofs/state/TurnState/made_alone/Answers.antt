@@ -1,4 +1,4 @@
-use Rattle.arimaa_step.proofs.AnswerLaws.{ok_parts, moves_fit}
+use Rattle.arimaa_step.proofs.Lemmas.AnswerLaws.{ok_parts, moves_fit}
 use Rattle.arimaa_step.proofs.state.TurnState.made_alone.Goals as goal
 
 pub ends_move-ends-requires : goal.ends_move-ends-requires

@@ -1,7 +1,7 @@
 use Rattle.std.proofs.Common.{◌≡◌, sym, false, arith}
 use Rattle.std.specs.Prelude.{nat_le}
 use Rattle.std.proofs.lemmas.Bool.Decides.{nat_tests}
-use Rattle.arimaa_step.proofs.AnswerLaws.{ok_parts, moves_fit, ok_answer}
+use Rattle.arimaa_step.proofs.Lemmas.AnswerLaws.{ok_parts, moves_fit, ok_answer}
 use Rattle.arimaa_step.proofs.state.TurnState.make.Goals as goal
 
 pub ends_move-ends-requires : goal.ends_move-ends-requires

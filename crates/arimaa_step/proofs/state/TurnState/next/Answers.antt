@@ -1,7 +1,7 @@
 use Rattle.std.proofs.Common.{◌≡◌, ◌∙◌, sym, ap, false, true, arith, Err}
 use Rattle.std.specs.Prelude.{nat_le}
 use Rattle.std.proofs.lemmas.Bool.Decides.{nat_tests}
-use Rattle.arimaa_step.proofs.AnswerLaws.{fifth_answer, unfit_answer}
+use Rattle.arimaa_step.proofs.Lemmas.AnswerLaws.{fifth_answer, unfit_answer}
 use Rattle.arimaa_step.proofs.state.TurnState.next.Goals as goal
 
 pub returns-then-self-ge4 : goal.returns-then-self-ge4

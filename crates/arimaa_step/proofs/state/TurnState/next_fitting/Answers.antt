@@ -2,7 +2,7 @@ use Rattle.std.proofs.Common.{◌≡◌, ◌∙◌, sym, ap, false, arith, Err, 
 use Rattle.std.specs.Prelude.{nat_le}
 use Rattle.std.proofs.lemmas.Bool.Decides.{nat_tests}
 use Rattle.arimaa_step.specs.State.{trap_first}
-use Rattle.arimaa_step.proofs.AnswerLaws.{any_is, stuck_answer, ok_answer}
+use Rattle.arimaa_step.proofs.Lemmas.AnswerLaws.{any_is, stuck_answer, ok_answer}
 use Rattle.arimaa_step.proofs.state.TurnState.next_fitting.Goals as goal
 
 pub returns-then-not-any : goal.returns-then-not-any

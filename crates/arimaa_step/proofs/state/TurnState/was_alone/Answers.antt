@@ -1,6 +1,6 @@
 use Rattle.std.proofs.Common.{◌≡◌, ◌&&◌, ◌∙◌, sym, ap, false}
 use Rattle.arimaa_step.specs.Next.{ends_move}
-use Rattle.arimaa_step.proofs.AnswerLaws.{alone_is, ok_parts, moves_fit}
+use Rattle.arimaa_step.proofs.Lemmas.AnswerLaws.{alone_is, ok_parts, moves_fit}
 use Rattle.arimaa_step.proofs.state.TurnState.was_alone.Goals as goal
 
 pub goes_alone-requires : goal.goes_alone-requires

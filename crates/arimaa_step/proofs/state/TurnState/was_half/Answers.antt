@@ -1,7 +1,7 @@
 use Rattle.std.proofs.Common.{◌≡◌, ◌&&◌, ◌∙◌, sym, ap, false}
 use Rattle.std.specs.Prelude.{not}
 use Rattle.arimaa_step.specs.Next.{ends_move}
-use Rattle.arimaa_step.proofs.AnswerLaws.{begins_is, ok_parts, moves_fit}
+use Rattle.arimaa_step.proofs.Lemmas.AnswerLaws.{begins_is, ok_parts, moves_fit}
 use Rattle.arimaa_step.proofs.state.TurnState.was_half.Goals as goal
 
 pub begins_push-requires : goal.begins_push-requires

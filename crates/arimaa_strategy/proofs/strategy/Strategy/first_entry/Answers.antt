@@ -1,7 +1,7 @@
 use Rattle.std.proofs.Common.{◌≡◌, sym, subst, Option, ℕ, length, ◌<◌, rules}
 use Rattle.std.specs.Prelude.{IfSome}
 use Rattle.arimaa_strategy.specs.Entries.{place_of}
-use Rattle.arimaa_strategy.proofs.PlaceLaws.{place_within}
+use Rattle.arimaa_strategy.proofs.Lemmas.PlaceLaws.{place_within}
 use Rattle.arimaa_strategy.proofs.strategy.Strategy.first_entry.Goals as goal
 
 pub returns-clause-within : goal.returns-clause-within

@@ -6,7 +6,7 @@ use Rattle.arimaa_history.specs.declared.key.Key.{Key}
 use Rattle.arimaa_history.specs.Keys.{key_of, position_at}
 use Rattle.arimaa_history.specs.Counts.{same_key}
 use Rattle.arimaa_strategy.specs.Places.{AreKept}
-use Rattle.arimaa_strategy.proofs.PlaceLaws.{kept_more}
+use Rattle.arimaa_strategy.proofs.Lemmas.PlaceLaws.{kept_more}
 use Rattle.arimaa_strategy.proofs.strategy.Strategy.push.Goals as goal
 
 pub invariant_of-self-2 : goal.invariant_of-self-2

@@ -2,7 +2,7 @@ use Rattle.std.proofs.Common.{◌∙◌, sym, ap, List, Option, ℕ, get_or, Som
 use Rattle.std.specs.Option.{option_map}
 use Rattle.arimaa_model.specs.Strategies.{Planned}
 use Rattle.arimaa_forced.specs.declared.entry.Entry.{Entry}
-use Rattle.arimaa_strategy.proofs.PlaceLaws.{found_at, found_nowhere}
+use Rattle.arimaa_strategy.proofs.Lemmas.PlaceLaws.{found_at, found_nowhere}
 use Rattle.arimaa_strategy.proofs.strategy.Strategy.rank_of.Goals as goal
 
 abbrev rank_in : Option Planned → Option ℕ

@@ -1,5 +1,5 @@
 use Rattle.std.proofs.Common.{◌∙◌, sym, ap}
-use Rattle.arimaa_strategy.proofs.PlaceLaws.{found_before, is_before}
+use Rattle.arimaa_strategy.proofs.Lemmas.PlaceLaws.{found_before, is_before}
 use Rattle.arimaa_strategy.proofs.strategy.Strategy.stands_before.Goals as goal
 
 pub returns-in-None : goal.returns-in-None

@@ -1,4 +1,4 @@
-use Rattle.arimaa_line.proofs.Truth.{true_is_line}
+use Rattle.arimaa_line.proofs.Lemmas.Truth.{true_is_line}
 use Rattle.arimaa_table.specs.declared.view.Setting.{Setting}
 use Rattle.arimaa_table.proofs.table.Table.bounds_over.Goals as goal
 

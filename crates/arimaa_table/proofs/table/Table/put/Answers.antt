@@ -3,7 +3,7 @@ use Rattle.atomic_table.specs.Table.{Me}
 use Rattle.arimaa_line.specs.declared.line.Line.{Line}
 use Rattle.arimaa_line.specs.declared.bounds.Bounds.{Bounds}
 use Rattle.arimaa_line.specs.Lines.{IsLineOf, LosesNoBound}
-use Rattle.arimaa_line.proofs.Truth.{says_truth, loses_none-said}
+use Rattle.arimaa_line.proofs.Lemmas.Truth.{says_truth, loses_none-said}
 use Rattle.arimaa_table.specs.declared.view.Setting.{Setting}
 use Rattle.arimaa_table.specs.declared.view.PassView.{PassView}
 use Rattle.arimaa_table.proofs.CallSteps.{given_back, may_give_newer, only_here}

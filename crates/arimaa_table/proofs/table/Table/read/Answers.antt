@@ -1,6 +1,6 @@
 use Rattle.std.proofs.Common.{◌≡◌, Option, None, Some, IfSome, refl}
 use Rattle.arimaa_line.specs.declared.bounds.Bounds.{Bounds}
-use Rattle.arimaa_line.proofs.Truth.{true_is_line, truth_said}
+use Rattle.arimaa_line.proofs.Lemmas.Truth.{true_is_line, truth_said}
 use Rattle.arimaa_table.specs.declared.view.Setting.{Setting}
 use Rattle.arimaa_table.proofs.table.Table.read.Goals as goal
 

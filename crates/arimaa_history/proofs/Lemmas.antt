@@ -1,0 +1,3 @@
+-- The lemmas that the proofs of other crates cite.
+pub mod KeyTests
+pub mod Present

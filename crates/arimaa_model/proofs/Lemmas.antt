@@ -1,0 +1,25 @@
+-- The lemmas that the proofs of other crates cite.
+pub mod Lists
+pub mod Growing
+pub mod Reaching
+pub mod RelatedMoves
+pub mod RelatedTurns
+pub mod RelatedWins
+pub mod WinsLaws
+pub mod BothWays
+pub mod Members
+pub mod Positions
+pub mod Barring
+pub mod Ranking
+pub mod Listed
+pub mod FirstTurns
+pub mod FaultLaws
+pub mod Shades
+pub mod Pushers
+pub mod Removals
+pub mod Numbers
+pub mod Distinct
+pub mod Meeting
+pub mod FirstPlaces
+pub mod Present
+pub mod MarkLaws

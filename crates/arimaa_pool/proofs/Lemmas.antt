@@ -1,0 +1,2 @@
+-- The lemmas that the proofs of other crates cite.
+pub mod EntryLaws
