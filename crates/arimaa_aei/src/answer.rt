@@ -27,8 +27,8 @@ pub enum Answer<'a> {
 }
 
 /// What an engine's line says, without its line end. The first item decides; `aeiok` and `readyok`
-/// stand alone, and after the other words the rest of the line is the text. Every other line, the empty
-/// one too, is `Other`.
+/// stand alone, and after the other words the rest of the line is the text. Every other line, the
+/// empty one too, is `Other`.
 #[tactic(auto, unfolding(crate::specs::Answers::spoken))]
 pub fn read_answer(line: &[u8]) -> Answer<'_>
     ensures { spoken_of result ≡ spoken line.now }

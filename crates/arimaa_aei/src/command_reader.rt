@@ -11,11 +11,11 @@ use arimaa_notation::{first_item, read_number, read_setup, read_turn, trim};
 
 /// What a controller's line says, without its line end.
 ///
-/// Items are separated by one or more blanks, which may also stand at both ends. The first item is the
-/// command's word, and the rest of the line its argument. `Unknown` is answered where the first item is
-/// no command's word, or is `setoption` with a name that no option has. `Argument` is answered where the
-/// rest of the line is not what belongs there. A `makemove` whose first item has three bytes is read as a
-/// setup, of the side of its first letter.
+/// Items are separated by one or more blanks, which may also stand at both ends. The first item is
+/// the command's word, and the rest of the line its argument. `Unknown` is answered where the first
+/// item is no command's word, or is `setoption` with a name that no option has. `Argument` is
+/// answered where the rest of the line is not what belongs there. A `makemove` whose first item has
+/// three bytes is read as a setup, of the side of its first letter.
 #[tactic(auto, unfolding(crate::specs::Commands::command_of))]
 pub fn read_command(line: &[u8]) -> Result<Command, CommandFault>
     ensures { result ≡ command_of line.now }

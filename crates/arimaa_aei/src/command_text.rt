@@ -13,8 +13,8 @@ use arimaa_notation::{setup_text, turn_text};
 use itoa::Buffer;
 use std::alloc::{AllocError, Global};
 
-/// The line of a command, without a line feed. It is read back, except where a turn without steps or a
-/// board that is not fit is told.
+/// The line of a command, without a line feed. It is read back, except where a turn without steps
+/// or a board that is not fit is told.
 pub fn command_bytes(alloc: Global, command: &Command) -> Result<Vec<u8>, AllocError>
     ensures text { IfOk result (λ line. line.items ≡ text_of_command command.now) }
     ensures reads_back { IfOk result (λ line. IsSayable command.now
@@ -53,7 +53,8 @@ fn side_letter(side: Color) -> u8
 
 // The line that sets a position.
 fn position_bytes(alloc: Global, position: &Position) -> Result<Vec<u8>, AllocError>
-    ensures text { IfOk result (λ line. line.items ≡ text_of_command (Command.SetPosition position.now)) }
+    ensures text { IfOk result
+        (λ line. line.items ≡ text_of_command (Command.SetPosition position.now)) }
     ensures reads_back { IfOk result (λ line. IsFit position.now.board
         → command_of line.items ≡ Ok (Command.SetPosition position.now)) }
 {
@@ -66,7 +67,8 @@ fn position_bytes(alloc: Global, position: &Position) -> Result<Vec<u8>, AllocEr
 
 // The line that sets an option.
 fn option_bytes(alloc: Global, name: OptionName, value: u64) -> Result<Vec<u8>, AllocError>
-    ensures text { IfOk result (λ line. line.items ≡ text_of_command (Command.SetOption name value)) }
+    ensures text { IfOk result
+        (λ line. line.items ≡ text_of_command (Command.SetOption name value)) }
     ensures reads_back { IfOk result (λ line. command_of line.items
         ≡ Ok (Command.SetOption name value)) }
 {
@@ -91,7 +93,8 @@ fn turn_bytes(alloc: Global, noted: &Noted) -> Result<Vec<u8>, AllocError>
 
 // The line that tells a setup.
 fn setup_bytes(alloc: Global, setup: &Setup) -> Result<Vec<u8>, AllocError>
-    ensures text { IfOk result (λ line. line.items ≡ text_of_command (Command.MakeSetup setup.now)) }
+    ensures text { IfOk result
+        (λ line. line.items ≡ text_of_command (Command.MakeSetup setup.now)) }
     ensures reads_back { IfOk result (λ line. command_of line.items
         ≡ Ok (Command.MakeSetup setup.now)) }
 {

@@ -3,8 +3,8 @@ use Rattle.std.specs.Prelude.{◌≡◌, ℕ, List, ◌++◌, not, length, count
 use Rattle.std.specs.List.{flat_map}
 use Rattle.arimaa_archive.specs.Archive.{is_game_line, lines_before_game, records_of}
 
--- the lines before the first record, and then those of the records in order, are all lines but those
--- that begin a record
+-- the lines before the first record, and then those of the records in order, are all lines but
+-- those that begin a record
 abbrev pub KeepLines : Type 0
 KeepLines =
     (lines : List (List ℕ))

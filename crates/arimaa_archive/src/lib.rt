@@ -8,9 +8,9 @@
 mod calls;
 mod laws;
 mod parts;
+mod record_judgement;
 mod report;
 mod shares;
-mod record_judgement;
 mod words;
 
 pub use arimaa_judge::{Ending, Label, Rule};
@@ -18,6 +18,6 @@ pub use arimaa_pool::{Gate, NoGate};
 pub use calls::run_archive;
 pub use laws::{archive_answers_agree, records_keep_lines, workers_agree};
 pub use parts::Part;
-pub use shares::judge_many;
 pub use record_judgement::Told;
+pub use shares::judge_many;
 pub use words::{MOST_WORKERS, USUAL_WORKERS};

@@ -16,8 +16,8 @@ fn swapped(pair: [u64; 2], shift: u8, mask: u64) -> [u64; 2]
     [low ^ (turned << shift), high ^ turned]
 }
 
-// Two neighbouring planes: the number of the plane goes to bit 0 of the place, bit 0 to bit 2, bit 2
-// to bit 4, and bit 4 is the number of the word.
+// Two neighbouring planes: the number of the plane goes to bit 0 of the place, bit 0 to bit 2, bit
+// 2 to bit 4, and bit 4 is the number of the word.
 fn near(pair: [u64; 2]) -> [u64; 2]
     ensures small { (k : ℕ) → k < 2 → slice_index result k < 2 ^ 64 }
     ensures bits { (n : ℕ) → n < 128

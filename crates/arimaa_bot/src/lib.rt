@@ -1,8 +1,8 @@
 //! A bot: an engine of the Arimaa Engine Interface that plays the wins that it can prove.
 //!
 //! It hears its controller's lines over a port and answers them one by one. Where it is asked for a
-//! turn it looks for a forced win within its depth, and plays the turn of its strategy; elsewhere it
-//! plays the first turn that doesn't lose at once.
+//! turn it looks for a forced win within its depth, and plays the turn of its strategy; elsewhere
+//! it plays the first turn that doesn't lose at once.
 #![tactic(auto)]
 
 mod bot_end;

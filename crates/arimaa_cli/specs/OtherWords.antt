@@ -1,4 +1,5 @@
--- Words outside the plain form: the list in the plain form's order that clap's matches give for them.
+-- Words outside the plain form: the list in the plain form's order that clap's matches give for
+-- them.
 use Rattle.std.specs.Prelude.{◌≡◌, true, List, [], ◌∷◌, ◌++◌, Option, None, Some, codes, slice_get}
 use Rattle.clap.specs.Words.{App, Row, Rule, Shape, Text, first_of, matches_of, new_app, new_rule, with_rule}
 use Rattle.clap.specs.Simple.{on_top}
@@ -13,7 +14,8 @@ option_rule id name = record (new_rule id) { long = Some name }
 abbrev pub without_help : Shape → Shape
 without_help s = record s { disable_help_flag = true }
 
--- what clap reads: up to three words after the name, and four options, each with a value; help is off
+-- what clap reads: up to three words after the name, and four options, each with a value; help is
+-- off
 abbrev pub words_app : App
 words_app =
     with_rule (with_rule (with_rule (with_rule

@@ -21,7 +21,8 @@ use Rattle.arimaa_outside.specs.Writing.{EndsWith}
 use Rattle.arimaa_cli.specs.declared.commands.Command.{Command}
 use Rattle.arimaa_cli.specs.Commands.{AreWords, IsTextWord}
 
--- the words ask for a match: its name, Gold's program and Silver's, and a text that is this control's
+-- the words ask for a match: its name, Gold's program and Silver's, and a text that is this
+-- control's
 pub record AsksToPlay (words : List (List ℕ)) (asked : Pairing) : Type 0 where
   pub text : List ℕ
   pub form : words ≡ codes "play" ∷ asked.gold ∷ asked.silver ∷ text ∷ []
@@ -47,7 +48,8 @@ status_at (end.Engine side why) = EngineFault
 
 -- what came of a match is told: its text, whole unless a write failed, or nothing where memory ran
 -- out
-abbrev pub IsTold : Status → Option (List ℕ) → Option (List ℕ) → Result MatchDone AllocError → Type 0
+abbrev pub IsTold : Status → Option (List ℕ) → Option (List ℕ) → Result MatchDone AllocError
+    → Type 0
 IsTold result before after (Err e) = (result ≡ Memory) × (after ≡ before)
 IsTold result before after (Ok m) =
     EndsWith result before after (status_at m.ending) (text_of_match m)
@@ -74,4 +76,5 @@ pub record Played {L : Type 0} (sent : L → Option (List (List ℕ)))
   pub lawful : IfOk outcome (λ m. result ≢ Memory → IsLawfulMatch m)
   -- the status of an engine's fault has its cause, and the others are these
   pub engine_fault : result ≡ EngineFault → HasEngineFault counts now
-  pub others : (result ≡ Done) ⊎ ((result ≡ EngineFault) ⊎ ((result ≡ WriteFault) ⊎ (result ≡ Memory)))
+  pub others : (result ≡ Done)
+      ⊎ ((result ≡ EngineFault) ⊎ ((result ≡ WriteFault) ⊎ (result ≡ Memory)))

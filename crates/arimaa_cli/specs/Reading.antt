@@ -1,4 +1,5 @@
--- How the words are read: as they stand where they have the plain form, and else as clap reads them.
+-- How the words are read: as they stand where they have the plain form, and else as clap reads
+-- them.
 use Rattle.std.specs.Prelude.{◌⊎◌, ℕ, List}
 use Rattle.arimaa_cli.specs.declared.commands.Command.{Command}
 use Rattle.arimaa_cli.specs.declared.play.Pairing.{Pairing}

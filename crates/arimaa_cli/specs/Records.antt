@@ -11,7 +11,8 @@ use Rattle.arimaa_cli.specs.declared.record.Game.{Game}
 use Rattle.arimaa_cli.specs.declared.record.Record.{Record}
 use Rattle.arimaa_cli.specs.declared.record.Record.TheVariants.{Bad, Lawful}
 
--- the bytes are a bad record: the number of its first bad line, the label that is due there, and the first rule that it breaks, as text
+-- the bytes are a bad record: the number of its first bad line, the label that is due there, and
+-- the first rule that it breaks, as text
 pub record IsBad (given text : List ℕ) : Type 0 where
   pub number : ℕ
   pub due : Label
@@ -28,13 +29,16 @@ abbrev pub IsRecord : List ℕ → Record → Type 0
 IsRecord given (Bad text) = IsBad given text
 IsRecord given (Lawful game) = IsGame given game
 
--- what is answered about a record where this is what is answered about a lawful record's game: the first fault of a bad one
+-- what is answered about a record where this is what is answered about a lawful record's game: the
+-- first fault of a bad one
 abbrev pub IsAnswerAbout : (Game → Answer → Type 0) → Record → Answer → Type 0
 IsAnswerAbout IsAnswered (Bad text) a = a ≡ Answered text
 IsAnswerAbout IsAnswered (Lawful game) a = IsAnswered game a
 
--- what is answered over an input of these bytes where this is what is answered about a lawful record's game
-pub data IsRecordAnswer (given : List ℕ) (IsAnswered : Game → Answer → Type 0) : Answer → Type 0 where
+-- what is answered over an input of these bytes where this is what is answered about a lawful
+-- record's game
+pub data IsRecordAnswer (given : List ℕ) (IsAnswered : Game → Answer → Type 0) : Answer
+    → Type 0 where
   -- a bad record: its first fault
   bad : (text : List ℕ) → IsBad given text → IsRecordAnswer given IsAnswered (Answered text)
   -- a lawful record

@@ -70,7 +70,8 @@ fn push_word(list: &mut CommandWords, matches: &ArgMatches, id: &str) -> Result<
 
 // Adds an option with the value that matches give for it.
 fn push_option(list: &mut CommandWords, matches: &ArgMatches, id: &str) -> Result<(), AllocError>
-    ensures { OnOk result (list.new ≡ list.old ++ option_in id.now (rows_of (found_of matches.now))) }
+    ensures { OnOk result
+        (list.new ≡ list.old ++ option_in id.now (rows_of (found_of matches.now))) }
 {
     match matches.get_str(id) {
         Some(value) => {

@@ -66,8 +66,16 @@ pub(crate) fn play<O: Sink, S: Spawner, K: Clock>(
     clock: &mut K,
 ) -> Status
     ensures played { Played S.Link.sent S.Link.answers S.Link.counts asked.now.control result
-        (record { waiting = S.waiting spawner.old; back = S.back spawner.old; answers = S.answers spawner.old })
-        (record { waiting = S.waiting spawner.new; back = S.back spawner.new; answers = S.answers spawner.new })
+        (record {
+          waiting = S.waiting spawner.old;
+          back = S.back spawner.old;
+          answers = S.answers spawner.old;
+        })
+        (record {
+          waiting = S.waiting spawner.new;
+          back = S.back spawner.new;
+          answers = S.answers spawner.new;
+        })
         (S.counts spawner.old) (S.counts spawner.new) (K.given clock.old) (K.given clock.new)
         (O.contents output.old) (O.contents output.new) }
     ensures output { Outputs result (O.contents output.old) (O.contents output.new)
@@ -101,8 +109,16 @@ pub fn run_play<O: Sink, S: Spawner, K: Clock>(
 ) -> Status
     ensures played { AsRead words.now (λ read. (asked : Match) → AsksToPlay read asked
         → Played S.Link.sent S.Link.answers S.Link.counts asked.control result
-        (record { waiting = S.waiting spawner.old; back = S.back spawner.old; answers = S.answers spawner.old })
-        (record { waiting = S.waiting spawner.new; back = S.back spawner.new; answers = S.answers spawner.new })
+        (record {
+          waiting = S.waiting spawner.old;
+          back = S.back spawner.old;
+          answers = S.answers spawner.old;
+        })
+        (record {
+          waiting = S.waiting spawner.new;
+          back = S.back spawner.new;
+          answers = S.answers spawner.new;
+        })
         (S.counts spawner.old) (S.counts spawner.new) (K.given clock.old) (K.given clock.new)
         (O.contents output.old) (O.contents output.new)) }
     ensures bad_words { AsRead words.now (λ read. AsksNoMatch read → result ≢ Memory

@@ -36,7 +36,8 @@ fn stuck_cause(p: &Position) -> Cause
     }
 }
 
-// The ending of a position that is not decided: the side to move has lost where each result stands twice.
+// The ending of a position that is not decided: the side to move has lost where each result stands
+// twice.
 fn stuck_ending(history: &History, p: &Position) -> Option<Ending>
     ensures { result ≡ ended_for p.now None (lawful_at history.now p.now) }
 {

@@ -24,8 +24,9 @@ use std::marker::Model;
 
 /// A game, from the position in which it begins.
 ///
-/// It begins after both setups or with a given position, and goes on by turns until the rules end it or a
-/// word closes it. A contract sees it as its positions and the word that closed it, if one did.
+/// It begins after both setups or with a given position, and goes on by turns until the rules end
+/// it or a word closes it. A contract sees it as its positions and the word that closed it, if one
+/// did.
 #[derive(Drop)]
 pub struct Game {
     history: History,
@@ -50,7 +51,8 @@ impl Game {
     pub fn from_setups(alloc: Global, gold: &Setup, silver: &Setup) -> Result<Game, AllocError>
         requires gold { gold.now.color ≡ colors.Gold }
         requires silver { silver.now.color ≡ colors.Silver }
-        ensures begun { IfOk result (λ game. game ≡ begun (position_after_setups gold.now silver.now)) }
+        ensures begun { IfOk result
+            (λ game. game ≡ begun (position_after_setups gold.now silver.now)) }
         ensures board { HoldsSetups gold.now silver.now (board_after_setups gold.now silver.now) }
     {
         Game::from_start(alloc, position_after(gold, silver))
@@ -92,7 +94,8 @@ impl Game {
         ensures refused { OnErr result (self.new ≡ self.old) }
 
         // For a turn with the right marks the fault is the first that the rules of the game name.
-        ensures first { (p : Position) (marks : List (Option (Piece × ℕ))) → present self.old.history ≡ Some p
+        ensures first { (p : Position) (marks : List (Option (Piece × ℕ)))
+            → present self.old.history ≡ Some p
             → ending_of self.old ≡ None → IsTrue (marks_right p.board turn.now marks)
             → first_fault_in self.old.history p turn.now marks ≡ rule_of_answer result }
     {
@@ -102,8 +105,8 @@ impl Game {
 
     /// Plays a turn with its removal marks, and answers how the game has then ended, if it has.
     ///
-    /// The faults are those of `play`, and `Mark`, where a mark is missing, wrong or out of place: it comes
-    /// after `Step` and before `Turn`. The game then is as before.
+    /// The faults are those of `play`, and `Mark`, where a mark is missing, wrong or out of place:
+    /// it comes after `Step` and before `Turn`. The game then is as before.
     pub fn play_noted(&mut self, noted: &Noted) -> Result<Option<Ending>, GameFault>
         ensures played { OnOk result (GoesOn self.old (noted_turn noted.now) self.new) }
         ensures ending { IfOk result (λ ended. ended ≡ ending self.new.history) }
@@ -112,8 +115,10 @@ impl Game {
         ensures refused { OnErr result (self.new ≡ self.old) }
 
         // The fault is the first that the rules of the game name.
-        ensures first { (p : Position) → present self.old.history ≡ Some p → ending_of self.old ≡ None
-            → first_fault_in self.old.history p (noted_turn noted.now) (noted_marks noted.now) ≡ rule_of_answer result }
+        ensures first { (p : Position) → present self.old.history ≡ Some p
+            → ending_of self.old ≡ None
+            → first_fault_in self.old.history p (noted_turn noted.now) (noted_marks noted.now)
+            ≡ rule_of_answer result }
     {
         let turn = noted.turn();
         if marks_fit(&self.now(), noted, Marks::Required) {
@@ -149,17 +154,19 @@ impl Game {
         }
     }
 
-    // Adds the position that a turn reaches, unless it stands there twice, and answers how the game has
-    // then ended.
+    // Adds the position that a turn reaches, unless it stands there twice, and answers how the game
+    // has then ended.
     fn add(&mut self, reached: Position) -> Result<Option<Ending>, GameFault>
         requires running { ending_of self.old ≡ None }
-        requires lawful { count_in self.old.history reached ≤ 1 → IsLawful self.old.history reached }
+        requires lawful { count_in self.old.history reached ≤ 1
+            → IsLawful self.old.history reached }
         requires fit { IsFit reached.board }
         ensures added { OnOk result (self.new ≡ grown self.old reached) }
         ensures few { OnOk result (count_in self.old.history reached ≤ 1) }
         ensures ending { IfOk result (λ ended. ended ≡ ending self.new.history) }
         ensures answer { IfOk result (λ ended. ended ≡ ending_of self.new) }
-        ensures fault { IfErr result (λ e. IsFaultOf (unless_third self.old.history (Ok reached)) e) }
+        ensures fault { IfErr result
+            (λ e. IsFaultOf (unless_third self.old.history (Ok reached)) e) }
         ensures refused { OnErr result (self.new ≡ self.old) }
     {
         match self.history.push_unless_third(reached) {
@@ -172,13 +179,15 @@ impl Game {
         }
     }
 
-    /// Closes the game by a word: the side to move loses. Refused exactly where the game has ended, by `Over`,
-    /// and then it is as before.
+    /// Closes the game by a word: the side to move loses. Refused exactly where the game has ended,
+    /// by `Over`, and then it is as before.
     pub fn close(&mut self, word: Word) -> Result<Ending, GameFault>
         ensures over { IsErr result ↔ IsSome (ending_of self.old) }
         ensures fault { IfErr result (λ e. e ≡ GameFault.Over) }
         ensures closed { OnOk result (self.new ≡ closed self.old word) }
-        ensures loser { IfOk result (λ ended. (p : Position) → present self.old.history ≡ Some p → ended ≡ closed_by word p.side) }
+        ensures loser { IfOk result
+            (λ ended. (p : Position) → present self.old.history ≡ Some p
+            → ended ≡ closed_by word p.side) }
         ensures ending { IfOk result (λ ended. ending_of self.new ≡ Some ended) }
         ensures refused { OnErr result (self.new ≡ self.old) }
     {
@@ -191,8 +200,8 @@ impl Game {
         Ok(ending)
     }
 
-    /// Takes back the last turn, and answers the position that is now present, from which the game goes on.
-    /// It takes no memory. What the turn brought about is counted no more.
+    /// Takes back the last turn, and answers the position that is now present, from which the game
+    /// goes on. It takes no memory. What the turn brought about is counted no more.
     ///
     /// A fault is the first that applies of
     ///

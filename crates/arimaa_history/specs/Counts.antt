@@ -31,26 +31,35 @@ count_of counts k = unwrap_or (get order_of counts k) 0
 
 -- a key is counted so often in the new map, and each other key as often as in the old one
 abbrev pub IsCounted : BTreeMap Key ℕ → BTreeMap Key ℕ → Key → ℕ → Type 0
-IsCounted old new key count = (k : Key) → count_of new k ≡ (if is_eq (order_of key k) then count else count_of old k)
+IsCounted old new key count = (k : Key)
+    → count_of new k ≡ (if is_eq (order_of key k) then count else count_of old k)
 
 -- whether a set has a key
 abbrev pub has_key : BTreeSet Key → Key → Bool
 has_key keys k = has order_of keys k
 
--- the set has the key of a position exactly where it stands in a list, for those that their keys give back
+-- the set has the key of a position exactly where it stands in a list, for those that their keys
+-- give back
 abbrev pub HasKeys : List Position → BTreeSet Key → Type 0
-HasKeys h keys = (q : Position) → position_at (key_of q) ≡ q → (has_key keys (key_of q) ≡ true → 1 ≤ count_in h q) × (has_key keys (key_of q) ≡ false → count_in h q ≡ 0)
+HasKeys h keys = (q : Position) → position_at (key_of q) ≡ q
+    → (has_key keys (key_of q) ≡ true → 1 ≤ count_in h q)
+    × (has_key keys (key_of q) ≡ false → count_in h q ≡ 0)
 
--- the map has at its key how often again a position stands in a list, for each position that its key gives back
+-- the map has at its key how often again a position stands in a list, for each position that its
+-- key gives back
 abbrev pub AreCounts : List Position → BTreeMap Key ℕ → Type 0
-AreCounts h again = (q : Position) → position_at (key_of q) ≡ q → count_of again (key_of q) ≡ count_in h q - 1
+AreCounts h again = (q : Position) → position_at (key_of q) ≡ q
+    → count_of again (key_of q) ≡ count_in h q - 1
 
 -- the set has the keys of the positions of a list, of those that their keys give back
 abbrev pub AreKeys : {S : Type 0} → List Position → HashSet Key S → Type 0
-AreKeys ps keys = (q : Position) → position_at (key_of q) ≡ q → contains same_key keys (key_of q) ≡ stands_in ps q
+AreKeys ps keys = (q : Position) → position_at (key_of q) ≡ q
+    → contains same_key keys (key_of q) ≡ stands_in ps q
 
--- what is kept beside the positions of a history: the barred ones, the keys, and how often again each stands there
-pub record AreKept (h barred : List Position) (keys : BTreeSet Key) (again : BTreeMap Key ℕ) : Type 0 where
+-- what is kept beside the positions of a history: the barred ones, the keys, and how often again
+-- each stands there
+pub record AreKept (h barred : List Position) (keys : BTreeSet Key)
+    (again : BTreeMap Key ℕ) : Type 0 where
   pub barring : barred ≡ barred_by h
   pub standing : HasKeys h keys
   pub counting : AreCounts h again

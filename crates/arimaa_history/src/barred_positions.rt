@@ -13,8 +13,8 @@ use std::marker::Model;
 
 /// Positions that no turn may bring about, in a given order. A contract sees them as their list.
 ///
-/// An index beside the list tells whether a position is barred, in a time that does not grow with the
-/// number of barred positions.
+/// An index beside the list tells whether a position is barred, in a time that does not grow with
+/// the number of barred positions.
 #[derive(Drop)]
 pub struct Barred {
     positions: Vec<Position>,
@@ -45,7 +45,8 @@ impl Barred {
         }
     }
 
-    /// Adds a position at the end. It fails for want of memory only, and then the list is as before.
+    /// Adds a position at the end. It fails for want of memory only, and then the list is as
+    /// before.
     pub fn push(&mut self, p: Position) -> Result<(), AllocError>
         ensures pushed { OnOk result (self.new ≡ self.old ++ p ∷ []) }
         ensures refused { OnErr result (self.new ≡ self.old) }
@@ -57,7 +58,8 @@ impl Barred {
         Ok(())
     }
 
-    /// Takes the last position from the list, which has none twice, and answers it. It takes no memory.
+    /// Takes the last position from the list, which has none twice, and answers it. It takes no
+    /// memory.
     pub fn pop(&mut self) -> Option<Position>
         requires { AreDistinct self.old }
         ensures popped { self.old ≡ self.new ++ option_to_list result }

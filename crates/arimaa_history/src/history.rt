@@ -16,12 +16,12 @@ use std::marker::Model;
 
 /// The positions of a game in order, the present one last.
 ///
-/// A position is a board with the side to move. One that stands at least twice is barred: no turn may bring
-/// it about any more. A contract sees a history as the list of its positions.
+/// A position is a board with the side to move. One that stands at least twice is barred: no turn
+/// may bring it about any more. A contract sees a history as the list of its positions.
 ///
-/// To count a position or to add one takes one search of an ordered set, and a second one, of an ordered
-/// map, where the position stands there already. Their time grows with the logarithm of the number of
-/// distinct positions.
+/// To count a position or to add one takes one search of an ordered set, and a second one, of an
+/// ordered map, where the position stands there already. Their time grows with the logarithm of the
+/// number of distinct positions.
 #[derive(Drop)]
 pub struct History {
     positions: Vec<Position>,
@@ -44,8 +44,8 @@ impl Model for History {
     ghost invariant = { λ h. AreKept h.positions.items h.barred h.keys h.again };
 }
 
-// Adds a position to a list where it stood, `again` times after the first, and to the barred ones where it
-// stood once.
+// Adds a position to a list where it stood, `again` times after the first, and to the barred ones
+// where it stood once.
 fn add(
     positions: &mut Vec<Position>,
     barred: &mut Barred,
@@ -53,7 +53,8 @@ fn add(
     p: &Position,
 ) -> Result<(), AllocError>
     ensures positions { OnOk result (positions.new.items ≡ positions.old.items ++ p.now ∷ []) }
-    ensures barred { OnOk result (barred.new ≡ barred.old ++ (if again == 0 then p.now ∷ [] else [])) }
+    ensures barred { OnOk result
+        (barred.new ≡ barred.old ++ (if again == 0 then p.now ∷ [] else [])) }
     ensures refused { OnErr result (positions.new.items ≡ positions.old.items) }
     ensures kept { OnErr result (barred.new ≡ barred.old) }
 {
@@ -65,8 +66,8 @@ fn add(
     Ok(())
 }
 
-// Adds a position to a list and its key to the keys, unless they have the key already, and answers whether
-// it was added.
+// Adds a position to a list and its key to the keys, unless they have the key already, and answers
+// whether it was added.
 fn add_new(
     positions: &mut Vec<Position>,
     keys: &mut BTreeSet<Key>,
@@ -93,8 +94,8 @@ fn add_new(
     Ok(true)
 }
 
-// Counts a key once less, and answers how often it was counted before. A key that is counted no more
-// leaves the map.
+// Counts a key once less, and answers how often it was counted before. A key that is counted no
+// more leaves the map.
 fn count_less(counts: &mut BTreeMap<Key, u64>, key: &Key) -> u64
     ensures before { result ≡ count_of counts.old key.now }
     ensures counted { IsCounted counts.old counts.new key.now (count_of counts.old key.now - 1) }
@@ -126,12 +127,14 @@ impl History {
         }
     }
 
-    // Adds a position at the end, unless it stands there `limit` times, and answers whether it was added.
+    // Adds a position at the end, unless it stands there `limit` times, and answers whether it was
+    // added.
     #[tactic(auto, using(crate::proofs::Counting::unchanged_counts))]
     fn push_below(&mut self, p: Position, limit: u64) -> Result<bool, AllocError>
         requires { 2 ≤ limit }
         ensures added { IfOk result (λ added. added ≡ not (nat_le limit (count_in self.old p))) }
-        ensures pushed { IfOk result (λ added. self.new ≡ (if added then self.old ++ p ∷ [] else self.old)) }
+        ensures pushed { IfOk result
+            (λ added. self.new ≡ (if added then self.old ++ p ∷ [] else self.old)) }
         ensures below { OnErr result (nat_le limit (count_in self.old p) ≡ false) }
         ensures refused { OnErr result (self.new ≡ self.old) }
     {
@@ -148,7 +151,8 @@ impl History {
         Ok(true)
     }
 
-    /// Adds a position at the end. It fails for want of memory only, and then the history is as before.
+    /// Adds a position at the end. It fails for want of memory only, and then the history is as
+    /// before.
     pub fn push(&mut self, p: Position) -> Result<(), AllocError>
         ensures pushed { OnOk result (self.new ≡ self.old ++ p ∷ []) }
         ensures refused { OnErr result (self.new ≡ self.old) }
@@ -158,21 +162,23 @@ impl History {
         Ok(())
     }
 
-    /// Adds a position at the end, unless it stands there twice already, and answers whether it was added.
+    /// Adds a position at the end, unless it stands there twice already, and answers whether it was
+    /// added.
     ///
-    /// It fails for want of memory only, and only where it would add the position. Where it does not add it,
-    /// the history is as before.
+    /// It fails for want of memory only, and only where it would add the position. Where it does
+    /// not add it, the history is as before.
     pub fn push_unless_third(&mut self, p: Position) -> Result<bool, AllocError>
         ensures added { IfOk result (λ added. added ≡ not (nat_le 2 (count_in self.old p))) }
-        ensures pushed { IfOk result (λ added. self.new ≡ (if added then self.old ++ p ∷ [] else self.old)) }
+        ensures pushed { IfOk result
+            (λ added. self.new ≡ (if added then self.old ++ p ∷ [] else self.old)) }
         ensures below { OnErr result (nat_le 2 (count_in self.old p) ≡ false) }
         ensures refused { OnErr result (self.new ≡ self.old) }
     {
         self.push_below(p, 2)
     }
 
-    /// Takes the last position from the history, and answers it. None exactly where the history has no
-    /// position. It takes no memory.
+    /// Takes the last position from the history, and answers it. None exactly where the history has
+    /// no position. It takes no memory.
     ///
     /// The position is barred no more exactly where it stood twice.
     pub fn pop(&mut self) -> Option<Position>
@@ -212,7 +218,8 @@ impl History {
         &self.positions
     }
 
-    /// Each position that stands at least twice, once, in the order in which they came to stand twice.
+    /// Each position that stands at least twice, once, in the order in which they came to stand
+    /// twice.
     pub fn barred(&self) -> &Barred
         ensures value { result.now ≡ barred_by self.now }
         ensures twice { (q : Position) → Stands result.now q ↔ (2 ≤ count_in self.now q) }

@@ -124,7 +124,8 @@ view_of_new_seat v = record {
   weight = 1;
 }
 
--- what a seat knows after another was joined to it; the rule keeps the spare draws at 65,536 or less
+-- what a seat knows after another was joined to it; the rule keeps the spare draws at 65,536 or
+-- less
 abbrev pub view_after_join : SeatView → SeatView → SeatView
 view_after_join v w = record {
   count = v.count;

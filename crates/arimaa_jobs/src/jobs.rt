@@ -83,8 +83,8 @@ impl Jobs {
         }
     }
 
-    /// Reports a job that this seat claimed. The least word is that job from then on, or stays where
-    /// it is less. It takes no memory and waits for nobody.
+    /// Reports a job that this seat claimed. The least word is that job from then on, or stays
+    /// where it is less. It takes no memory and waits for nobody.
     pub fn report(&self, seat: &mut JobSeat, job: u32)
         requires seat { IsSeatOf self.now seat.old }
         requires job { (job < count_of self.now) × Stands job (view seat.old).drawn }
@@ -107,8 +107,8 @@ impl Jobs {
         self.words.shared.load::<LoadLeast>(&mut seat.seat, LEAST) as u32
     }
 
-    /// A second seat of these jobs, for another thread, with one spare draw and weight 1, both taken
-    /// from this seat. It takes no memory.
+    /// A second seat of these jobs, for another thread, with one spare draw and weight 1, both
+    /// taken from this seat. It takes no memory.
     pub fn split(&self, seat: &mut JobSeat) -> JobSeat
         requires seat { IsSeatOf self.now seat.old }
         requires enough { (2 ≤ (view seat.old).spare) × (2 ≤ (view seat.old).weight) }

@@ -41,8 +41,8 @@ pub enum Judged {
 
 /// Judges a record, whose lines are taken in order. It fails for want of memory only.
 ///
-/// A record is bad at its first line that breaks a rule, and no line after that one is read. Empty lines and
-/// comments break none, and are counted like the others.
+/// A record is bad at its first line that breaks a rule, and no line after that one is read. Empty
+/// lines and comments break none, and are counted like the others.
 pub fn judge(alloc: Global, bytes: &[u8]) -> Result<Judged, AllocError>
     ensures judged { IfOk result (λ judged. IsJudged bytes.now judged) }
     ensures fit { IfOk result HasFitBoards }

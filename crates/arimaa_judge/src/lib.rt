@@ -1,7 +1,7 @@
 //! The judge of records: whether a record is lawful, and the first rule that a bad one breaks.
 //!
-//! A record is a list of lines, which are taken in order. Each has to break no rule in the state of the
-//! record before it; if it breaks none, it changes that state.
+//! A record is a list of lines, which are taken in order. Each has to break no rule in the state of
+//! the record before it; if it breaks none, it changes that state.
 #![tactic(auto)]
 
 mod game_fault;

@@ -36,8 +36,8 @@ pub enum Stage {
 
 /// The state of a record before a line, where no line before it broke a rule.
 ///
-/// A contract sees it with Gold's setup and the positions of the game in place of the stage, and with
-/// the labels of the turn lines that stand.
+/// A contract sees it with Gold's setup and the positions of the game in place of the stage, and
+/// with the labels of the turn lines that stand.
 #[derive(Drop)]
 pub struct RecordState {
     stage: Stage,
@@ -58,7 +58,14 @@ impl Model for RecordState {
 
     ghost Value = { State };
 
-    ghost view = { λ s. record { gold = gold_of s.stage; history = history_of s.stage; labels = labels_before (turns_in (history_of s.stage)) s.repeated s.due; due = s.due; closed = s.closed; word = s.word } };
+    ghost view = { λ s. record {
+      gold = gold_of s.stage;
+      history = history_of s.stage;
+      labels = labels_before (turns_in (history_of s.stage)) s.repeated s.due;
+      due = s.due;
+      closed = s.closed;
+      word = s.word;
+    } };
 
     ghost invariant = { λ s. IsKept s.stage s.due s.repeated s.word };
 }
@@ -92,7 +99,8 @@ fn play_turn(game: &mut Game, noted: &Noted) -> Result<Option<Rule>, AllocError>
     requires under_way { IsUnderWay game.old }
     requires running { ending game.old.history ≡ None }
     ensures rule { IfOk result (λ broken. broken ≡ turn_rule game.old.history noted.now) }
-    ensures history { IfOk result (λ broken. game.new.history ≡ (if is_some broken then game.old.history
+    ensures history { IfOk result
+        (λ broken. game.new.history ≡ (if is_some broken then game.old.history
         else with_turn game.old.history (noted_turn noted.now))) }
     ensures under_way { IsUnderWay game.new }
     ensures refused { OnErr result (game.new ≡ game.old) }
@@ -131,8 +139,8 @@ fn turns_in(stage: &Stage) -> u64
     }
 }
 
-// How many of so many turn lines that stand have the label that is due after them, where the last of
-// them has this label, and so many of those before it too.
+// How many of so many turn lines that stand have the label that is due after them, where the last
+// of them has this label, and so many of those before it too.
 fn repeated_after(due: Label, repeated: u64, turns: u64) -> u64
     requires some { 0 < turns }
     requires repeats { AreRepeats (turns - 1) repeated due }
@@ -147,7 +155,8 @@ fn repeated_after(due: Label, repeated: u64, turns: u64) -> u64
 // before it have the same label.
 fn label_taken_back(due: Label, repeated: u64) -> (Label, u64)
     ensures labels { (turns : ℕ)
-        → labels_before (turns + 1) repeated due ≡ result.0 ∷ labels_before turns result.1 result.0 }
+        → labels_before (turns + 1) repeated due
+        ≡ result.0 ∷ labels_before turns result.1 result.0 }
     ensures repeats { (turns : ℕ) → AreRepeats (turns + 1) repeated due
         → AreRepeats turns result.1 result.0 }
 {
@@ -299,7 +308,8 @@ impl RecordState {
         Ok(None)
     }
 
-    // Places a setup, unless the line breaks a rule: the first is Gold's, and with the second the game begins.
+    // Places a setup, unless the line breaks a rule: the first is Gold's, and with the second the
+    // game begins.
     fn place(
         &mut self,
         alloc: Global,
@@ -325,7 +335,8 @@ impl RecordState {
 
     // Plays a turn, unless the line breaks a rule.
     fn play(&mut self, label: Label, noted: &Noted) -> Result<Option<Rule>, AllocError>
-        ensures { IfOk result (λ broken. Accepts self.old (rule_of_turn_line self.old label noted.now)
+        ensures { IfOk result
+            (λ broken. Accepts self.old (rule_of_turn_line self.old label noted.now)
             (with_played self.old (noted_turn noted.now)) broken self.new) }
     {
         if let Some(rule) = self.rule_of_label(label) {
@@ -389,7 +400,8 @@ impl RecordState {
         None
     }
 
-    // Takes a line where no line has closed the record, unless it breaks a rule, and answers that rule.
+    // Takes a line where no line has closed the record, unless it breaks a rule, and answers that
+    // rule.
     fn take_open(&mut self, alloc: Global, line: RecordLine) -> Result<Option<Rule>, AllocError>
         requires { IsGranted line }
         ensures { IfOk result (λ broken. Accepts self.old (rule_of_line self.old line)

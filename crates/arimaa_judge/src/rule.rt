@@ -2,8 +2,8 @@
 ghost use Rattle.std.specs.Prelude.{◌≡◌};
 ghost use Rattle.arimaa_judge.specs.Texts.{rule_word};
 
-/// What is wrong with a line of a record. For a line that breaks several rules it is the first of them,
-/// in this order; `Form` has two places in it.
+/// What is wrong with a line of a record. For a line that breaks several rules it is the first of
+/// them, in this order; `Form` has two places in it.
 ///
 /// A line without content, empty or a comment, breaks none.
 #[derive(Clone, Copy, Debug, PartialEq, Eq)]
@@ -14,8 +14,9 @@ pub enum Rule {
     Text,
     /// A turn of more than four steps.
     Steps,
-    /// A start line that is not the first line with content; or, tested after `Takeback`, a setup where
-    /// a turn is due, or a turn where a setup is due. Setups are due until the game has a position.
+    /// A start line that is not the first line with content; or, tested after `Takeback`, a setup
+    /// where a turn is due, or a turn where a setup is due. Setups are due until the game has a
+    /// position.
     Form,
     /// A start line whose text is no board, or one whose board cannot stand.
     Start,
@@ -25,7 +26,8 @@ pub enum Rule {
     Over,
     /// A takeback where no turn stands. Setups and start lines are not taken back.
     Takeback,
-    /// The entries of a setup line are not each home square of the side once, with exactly its army.
+    /// The entries of a setup line are not each home square of the side once, with exactly its
+    /// army.
     Setup,
     /// The first step that is refused: its square does not hold the named piece.
     Piece,

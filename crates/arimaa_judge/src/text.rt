@@ -41,8 +41,9 @@ fn push_number(alloc: Global, text: &mut Vec<u8>, number: u64) -> Result<(), All
     text.extend_from_slice(digits.as_bytes())
 }
 
-/// Adds a line that tells how a game stands: `winner`, the side and the cause where it has ended, and else
-/// `next` and the label that is due. Where no memory is left, a beginning of the line may have been added.
+/// Adds a line that tells how a game stands: `winner`, the side and the cause where it has ended,
+/// and else `next` and the label that is due. Where no memory is left, a beginning of the line may
+/// have been added.
 pub fn push_state(
     alloc: Global,
     text: &mut Vec<u8>,
@@ -67,8 +68,8 @@ pub fn push_state(
     Ok(())
 }
 
-/// The text about a lawful record: `lawful` and the number of its turns that stand, and a line that tells how the game
-/// stands.
+/// The text about a lawful record: `lawful` and the number of its turns that stand, and a line that
+/// tells how the game stands.
 pub fn lawful_text(
     alloc: Global,
     turns: u64,
@@ -84,8 +85,8 @@ pub fn lawful_text(
     Ok(text)
 }
 
-/// The text about a bad record: `bad`, the number of its first bad line, the label that is due there, and the
-/// word of the first rule that it breaks.
+/// The text about a bad record: `bad`, the number of its first bad line, the label that is due
+/// there, and the word of the first rule that it breaks.
 pub fn bad_text(alloc: Global, line: u64, label: Label, rule: Rule) -> Result<Vec<u8>, AllocError>
     ensures { IfOk result (λ text. text.items ≡ text_of_bad line label rule) }
 {

@@ -13,7 +13,8 @@ use Rattle.arimaa_meet.specs.Shares.{PlayDealt}
 use Rattle.arimaa_outside.specs.Writing.{EndsWith}
 
 module _ {S K L : Type 0} (sent : L → Option (List (List ℕ)))
-    (answers : L → Option (List PortAnswer)) (counts : L → Counts) (seat : S → K → Seat L) (asked : Asked)
+    (answers : L → Option (List PortAnswer)) (counts : L → Counts) (seat : S → K → Seat L)
+    (asked : Asked)
     (spawners later_spawners : List S) (clocks later_clocks : List K) where
   -- a meet was played, and this is its report
   pub record IsReport (text : List ℕ) : Type 0 where

@@ -32,7 +32,8 @@ dealt_from number worker workers (m ∷ later) =
 abbrev pub dealt_to : {A : Type 0} → ℕ → ℕ → List A → List A
 dealt_to worker workers matches = dealt_from 0 worker workers matches
 
--- what is told in each worker's share is told of these matches, which are those that are dealt to it
+-- what is told in each worker's share is told of these matches, which are those that are dealt to
+-- it
 pub record AreShares (pairs : List Pair) (of_worker : ℕ → List MeetMatch)
     (shares : List (Vec Told Global)) : Type 0 where
   pub programs : (w : ℕ) → w < length shares

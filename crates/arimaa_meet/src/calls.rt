@@ -11,10 +11,10 @@ ghost use Rattle.arimaa_meet.specs.Words.{AsksForMeet, AsksForNoMeet};
 ghost use Rattle.arimaa_outside.specs.Writing.{EndsWith, Outputs};
 
 use crate::gather::gather;
+use crate::match_report::Told;
 use crate::meet::Meet;
 use crate::pairs::all_pairs;
 use crate::report::report;
-use crate::match_report::Told;
 use crate::words::{Asked, read_meet};
 use crate::workers::play_shares;
 use arimaa_outside::{Clock, CommandWords, Sink, Spawner, Status, write_answer};

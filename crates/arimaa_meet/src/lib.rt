@@ -3,14 +3,14 @@
 #![tactic(auto)]
 
 mod calls;
-mod match_count;
 mod gather;
 mod laws;
+mod match_count;
+mod match_report;
 mod meet;
 mod pairs;
 mod report;
 mod table;
-mod match_report;
 mod words;
 mod workers;
 

@@ -4,8 +4,8 @@ ghost use Rattle.arimaa_meet.specs.Seats.{seat_of};
 ghost use Rattle.arimaa_meet.specs.Shares.{HasPlayedPair, HasPlayedShare};
 
 use crate::match_count::Counted;
-use crate::pairs::Pair;
 use crate::match_report::Told;
+use crate::pairs::Pair;
 use arimaa_match::{match_text, play_programs};
 use arimaa_outside::{Clock, CommandWords, Spawner};
 use arimaa_time::Control;

@@ -7,9 +7,9 @@ ghost use Rattle.arimaa_meet.specs.Shares.{IsTold};
 ghost use Rattle.arimaa_meet.specs.declared.pairs.TheConstants.{MOST_PAIRS as MOST};
 ghost use Rattle.arimaa_meet.specs.declared.words.TheConstants.{MOST_PROGRAMS};
 
+use crate::match_report::Told;
 use crate::pairs::Pair;
 use crate::table::{push_count, push_table};
-use crate::match_report::Told;
 use std::alloc::{AllocError, Global};
 
 // Adds a match, by its number: a line with its programs, and its text.

@@ -5,8 +5,8 @@ ghost use Rattle.arimaa_meet.specs.Seats.{seat_of};
 ghost use Rattle.arimaa_meet.specs.Shares.{HavePlayedShares};
 ghost use Rattle.arimaa_meet.specs.Workers.{HasWorked};
 
-use crate::meet::{Meet, play_share};
 use crate::match_report::Told;
+use crate::meet::{Meet, play_share};
 use arimaa_outside::{Clock, Spawner};
 use std::alloc::{AllocError, Global};
 use std::thread;

@@ -9,11 +9,11 @@ ghost use Rattle.arimaa_outside.specs.declared.port.TheConstants.{LINE_LIMIT};
 
 use crate::bytes::Bytes;
 use crate::calls::Calls;
-use crate::receipt::Heard;
 use crate::lists::put;
 use crate::port::Port;
 use crate::port_answer::PortAnswer;
 use crate::port_fault::PortFault;
+use crate::receipt::Heard;
 use crate::speech::Said;
 use std::alloc::{AllocError, Global};
 use std::marker::Model;

@@ -6,8 +6,8 @@ ghost use Rattle.arimaa_outside.specs.Faults.{HasRisen};
 ghost use Rattle.arimaa_outside.specs.ToldLines.{told_after};
 ghost use Rattle.arimaa_outside.specs.declared.port_answer.PortAnswer.{PortAnswer};
 
-use crate::receipt::Heard;
 use crate::port_fault::PortFault;
+use crate::receipt::Heard;
 
 /// The most bytes of a line that is received: 65,536, without its line end.
 pub const LINE_LIMIT: usize = 65_536;

@@ -4,8 +4,8 @@ ghost use Rattle.arimaa_outside.specs.Answers.{said_as};
 ghost use Rattle.arimaa_outside.specs.MemPort.{lines_after, stops_after, within_limit};
 
 use crate::bytes::Bytes;
-use crate::receipt::Heard;
 use crate::port::LINE_LIMIT;
+use crate::receipt::Heard;
 use std::alloc::{AllocError, Global};
 
 /// What is said to a call of `receive`.

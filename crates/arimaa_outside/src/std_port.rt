@@ -4,9 +4,9 @@ ghost use Rattle.arimaa_outside.specs.Counts.{NeverFall, no_counts};
 ghost use Rattle.arimaa_outside.specs.Faults.{HasRisen};
 ghost use Rattle.arimaa_outside.specs.StdPort.{counts_of};
 
-use crate::receipt::Heard;
 use crate::port::{LINE_LIMIT, Port};
 use crate::port_fault::PortFault;
+use crate::receipt::Heard;
 use std::io::{Read, Write};
 
 // The most bytes that are read for one line: the longest line, a carriage return and a line feed.

@@ -1,7 +1,7 @@
-//! Times the prover, by the words `COMMAND MOVER ATTACKER DEPTH WORKERS LINES BOARD`. The command `count`
-//! asks about a position at growing depths up to the first yes, as one worker does, and counts every
-//! question that is opened; `prove` proves with so many workers. MOVER and ATTACKER are `gold` or
-//! `silver`, and BOARD is a board's text. Without words it proves a small position.
+//! Times the prover, by the words `COMMAND MOVER ATTACKER DEPTH WORKERS LINES BOARD`. The command
+//! `count` asks about a position at growing depths up to the first yes, as one worker does, and
+//! counts every question that is opened; `prove` proves with so many workers. MOVER and ATTACKER
+//! are `gold` or `silver`, and BOARD is a board's text. Without words it proves a small position.
 #![tactic(auto)]
 
 ghost use Rattle.std.specs.Prelude.{◌≡◌, ◌≤◌};
@@ -28,8 +28,8 @@ const ROOM: u32 = 262_144;
 // How many questions may be opened to answer one.
 const BUDGET: u64 = 1 << 40;
 
-// How many questions are opened where the attacker's win is asked about at depth 0, 1 and so on, up to
-// the first yes or to `depth`.
+// How many questions are opened where the attacker's win is asked about at depth 0, 1 and so on, up
+// to the first yes or to `depth`.
 fn questions(
     alloc: Global,
     p: &Position,

@@ -38,8 +38,8 @@ impl Label {
         }
     }
 
-    /// The label of the setup or turn after which this one is due: before Ns comes Ng, and before Ng
-    /// comes N - 1 with s. Where the last label is due, its own turn may also have come before.
+    /// The label of the setup or turn after which this one is due: before Ns comes Ng, and before
+    /// Ng comes N - 1 with s. Where the last label is due, its own turn may also have come before.
     pub fn previous(self) -> Label
         ensures value { result ≡ previous_label self }
         ensures back { (label : Due) → is_last_label label ≡ false → self ≡ next_label label

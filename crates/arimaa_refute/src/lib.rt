@@ -23,10 +23,10 @@ mod refutation_tests;
 mod refute_answer;
 #[cfg(test)]
 mod tests;
-mod verify_answer;
 mod verifier;
 #[cfg(test)]
 mod verifier_tests;
+mod verify_answer;
 mod written_form;
 
 pub use escape::Escape;
@@ -36,6 +36,6 @@ pub use laws::{held_roots_are_not_won, own_escapes_hold};
 pub use reader::read_escapes;
 pub use refutation::refute;
 pub use refute_answer::Refuted;
-pub use verify_answer::{Flaw, Verified};
 pub use verifier::verify;
+pub use verify_answer::{Flaw, Verified};
 pub use written_form::escapes_text;

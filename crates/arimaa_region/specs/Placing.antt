@@ -12,17 +12,22 @@ abbrev pub with_top_new : {X : Type 0} → (X → X → Bool) → List (List X) 
 with_top_new same segments x = with_new same (top segments) x ∷ below_top segments
 
 -- a stack before and after a placing, with its answer
-pub record IsPlaced {X : Type 0} (same : X → X → Bool) (old : Stacked X) (x : X) (result : Placed) (new : Stacked X) : Type 0 where
+pub record IsPlaced {X : Type 0} (same : X → X → Bool) (old : Stacked X) (x : X) (result : Placed)
+    (new : Stacked X) : Type 0 where
   -- `There` exactly where the top segment has the value
   pub there : IsTrue (is_there result) ↔ Contains (top old.segments) x
   -- `Full` exactly where it has not, and no place is free
-  pub full : IsTrue (is_full result) ↔ ((¬ (Contains (top old.segments) x)) × (length (live_of old.segments) ≡ old.room))
+  pub full : IsTrue (is_full result)
+      ↔ ((¬ (Contains (top old.segments) x)) × (length (live_of old.segments) ≡ old.room))
   -- where the value is there, its place is one of the top segment's and has it
-  pub its_place : IfThere result (λ n. (length (live_of (below_top old.segments)) ≤ n) × (slice_get (live_of old.segments) n ≡ Some x))
+  pub its_place : IfThere result
+      (λ n. (length (live_of (below_top old.segments)) ≤ n)
+      × (slice_get (live_of old.segments) n ≡ Some x))
   -- a new value takes the next place
   pub new_place : IfNew result (λ n. n ≡ length (live_of old.segments))
   -- nothing changes but the top segment, and nothing at all where it was full
-  pub after : new.segments ≡ (if is_full result then old.segments else with_top_new same old.segments x)
+  pub after : new.segments
+      ≡ (if is_full result then old.segments else with_top_new same old.segments x)
   -- nor does the room
   pub room : new.room ≡ old.room
   -- the top segment still has each value once

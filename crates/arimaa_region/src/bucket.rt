@@ -2,7 +2,8 @@
 ghost use Rattle.std.specs.Prelude.{◌≡◌, ◌<◌};
 ghost use Rattle.arimaa_region.specs.Hash.{bucket_of_hash, buckets_for};
 
-/// How many buckets serve so many places: few enough that those of a long list stay in the processor's cache.
+/// How many buckets serve so many places: few enough that those of a long list stay in the
+/// processor's cache.
 #[tactic(auto, unfolding(crate::specs::Hash::buckets_for))]
 pub(crate) fn buckets_for(room: u32) -> u32
     ensures value { result ≡ buckets_for room }

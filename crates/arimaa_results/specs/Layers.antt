@@ -38,4 +38,5 @@ brought_from barred p n = flat_map (brings_next barred p) (layer p n)
 
 -- values added to the top layer
 abbrev pub IsKept : Stacked (List ℕ) → Stacked (List ℕ) → Bool → Bool → List (List ℕ) → Type 0
-IsKept old new whole over adds = IsAdded (List ℕ) same_words old.room new.room old.segments new.segments whole over adds
+IsKept old new whole over adds =
+    IsAdded (List ℕ) same_words old.room new.room old.segments new.segments whole over adds

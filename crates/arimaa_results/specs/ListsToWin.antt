@@ -20,6 +20,7 @@ may_end until.All side part = false
 may_end until.Win side part = list_any (is_won_by side) part
 
 -- the list of the next positions begins with this part, and ends with it unless it may end early
-pub record IsListed (ends : Bool) (barred : List Position) (p : Position) (part : List Position) : Type 0 where
+pub record IsListed (ends : Bool) (barred : List Position) (p : Position)
+    (part : List Position) : Type 0 where
   pub begun : next barred p ≡ part ++ drop (length part) (next barred p)
   pub whole : ends ≡ false → drop (length part) (next barred p) ≡ []

@@ -39,7 +39,8 @@ has_step steps n d = is_in (mask_towards steps d) n
 -- the states by the steps from square n among some steps
 abbrev pub pairs_from : TurnState → AcceptedSteps → ℕ → List (Step × TurnState)
 pairs_from st steps n =
-    flat_map (λ d. if has_step steps n d then pairs_of_content st n d (at st.board n) else []) directions
+    flat_map (λ d. if has_step steps n d then pairs_of_content st n d (at st.board n) else [])
+    directions
 
 -- the states by some steps, in the order of the steps
 unfoldable pub pairs_left : TurnState → AcceptedSteps → List (Step × TurnState)
@@ -47,11 +48,13 @@ pairs_left st steps = flat_map (pairs_from st steps) (range_with_len 0 64)
 
 -- the state accepts each of some steps
 abbrev pub AreAllAccepted : TurnState → AcceptedSteps → Type 0
-AreAllAccepted st steps = (d : Dir) (n : ℕ) → n < 64 → has_step steps n d ≡ true → accepts st d n ≡ true
+AreAllAccepted st steps = (d : Dir) (n : ℕ) → n < 64 → has_step steps n d ≡ true
+    → accepts st d n ≡ true
 
 -- a state ends a move by each of some steps
 abbrev pub AreAllEnding : TurnState → AcceptedSteps → Type 0
-AreAllEnding st steps = (d : Dir) (n : ℕ) → n < 64 → has_step steps n d ≡ true → ends_by st d n ≡ true
+AreAllEnding st steps = (d : Dir) (n : ℕ) → n < 64 → has_step steps n d ≡ true
+    → ends_by st d n ≡ true
 
 -- what the state of a step gives
 abbrev pub next_gives : {R : Type 0} → (TurnState → List R) → Step × TurnState → List R
@@ -83,7 +86,8 @@ pub record IsTaken (old : AcceptedSteps) (m : ℕ) (d : Dir) (new : AcceptedStep
   -- nor from its own in an earlier direction
   pub none_earlier : IsFirstDirection (has_step old m) d
   -- the others are left
-  pub left : (n : ℕ) (e : Dir) → n < 64 → has_step new n e ≡ (has_step old n e && not (n == m && same_dir e d))
+  pub left : (n : ℕ) (e : Dir) → n < 64
+      → has_step new n e ≡ (has_step old n e && not (n == m && same_dir e d))
 
 -- no step was taken exactly where there is none, else the first one
 abbrev pub IsFirstTaken : AcceptedSteps → Option (ℕ × Dir) → AcceptedSteps → Type 0
@@ -98,13 +102,16 @@ ends_of pairs = map (λ pr. state_end pr.1) pairs
 abbrev pub last_of : List (Step × TurnState) → List (Step × Result Position TurnFault)
 last_of pairs = map (λ pr. (pr.0, state_end pr.1)) pairs
 
--- no step was taken exactly where the state accepts none of them, else the first, with the state that it makes
-pub record IsStepTaken (st : TurnState) (old : AcceptedSteps) (taken : Option Step) (new : AcceptedSteps) : Type 0 where
+-- no step was taken exactly where the state accepts none of them, else the first, with the state
+-- that it makes
+pub record IsStepTaken (st : TurnState) (old : AcceptedSteps) (taken : Option Step)
+    (new : AcceptedSteps) : Type 0 where
   -- the state accepts the step that was taken
   pub accepted : IfSome taken (λ s. IsOk (next_answer st s))
   -- and those that are left
   pub left_accepted : AreAllAccepted st new
   -- the states by them are the one that the step makes, and then those by the steps that are left
-  pub pairs : pairs_left st old ≡ option_to_list (option_map (λ s. (s, next_state st s)) taken) ++ pairs_left st new
+  pub pairs : pairs_left st old
+      ≡ option_to_list (option_map (λ s. (s, next_state st s)) taken) ++ pairs_left st new
   -- none is left where none was taken
   pub none : IfNone taken (pairs_left st old ≡ [])

@@ -5,8 +5,8 @@ ghost use Rattle.arimaa_model.specs.Results.{results, next, result_of, stands_in
 ghost use Rattle.arimaa_model.specs.Strategies.{first_turn};
 ghost use Rattle.arimaa_results.specs.Conditions.{first_passing, brings_passing};
 
-use crate::first_wanted::walk;
 use crate::condition::{AnyPosition, OnePosition, Unbarred, Wanted};
+use crate::first_wanted::walk;
 use arimaa_board::{Position, Turn};
 use arimaa_history::Barred;
 use arimaa_step::TurnState;
@@ -15,7 +15,8 @@ use arimaa_step::TurnState;
 ///
 /// Turns of fewer steps come first, and turns of equal length are compared step by step: by the
 /// square that a step leaves, from a1 to h8, and then by its direction in the order north, east,
-/// south, west. None comes exactly where no turn brings a wanted position about. No memory is taken.
+/// south, west. None comes exactly where no turn brings a wanted position about. No memory is
+/// taken.
 pub fn first_turn_where<W: Wanted>(p: &Position, wanted: &W) -> Option<Turn>
     ensures first { result ≡ first_passing (W.passes wanted.now) p.now }
     ensures some { is_some result ≡ list_any (W.passes wanted.now) (results p.now) }

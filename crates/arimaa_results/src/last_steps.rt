@@ -13,8 +13,8 @@ use arimaa_model::TurnFault;
 use arimaa_step::{AcceptedSteps, TurnState};
 use std::marker::Model;
 
-/// What the end of the turn answers after the steps that end a move, in the order of the steps. Neither their pieces nor
-/// the states after them are made.
+/// What the end of the turn answers after the steps that end a move, in the order of the steps.
+/// Neither their pieces nor the states after them are made.
 ///
 /// A contract sees the list of the answers that are left.
 #[derive(Drop)]
@@ -49,8 +49,8 @@ impl<'a> LastSteps<'a> {
         }
     }
 
-    /// Those after a step of a state, and the state `after` it, in order: where it is a single step, those that commute
-    /// with it and come before it are left out.
+    /// Those after a step of a state, and the state `after` it, in order: where it is a single
+    /// step, those that commute with it and come before it are left out.
     pub(crate) fn in_order(before: &TurnState, step: &Step, after: &'a TurnState) -> LastSteps<'a>
         requires accepted { IsOk (next_answer before.now step.now) }
         requires after { after.now ≡ next_state before.now step.now }

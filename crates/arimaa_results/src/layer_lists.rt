@@ -126,8 +126,8 @@ fn has_rabbit_near(board: &Board, side: Color) -> bool {
 }
 
 // Whether the list may end with the positions from a place of the top segment on, to which at most
-// two steps of a side lead from a board. They are looked through only where it has a rabbit there that
-// may reach its goal row by those.
+// two steps of a side lead from a board. They are looked through only where it has a rabbit there
+// that may reach its goal row by those.
 fn ends_list(until: Until, board: &Board, side: Color, first: u32, region: &Region) -> bool
     requires { length (live_of (below_top region.now.segments)) ≤ first }
     ensures { IsTrue result → may_end until side (top region.now.segments) ≡ true }
@@ -155,8 +155,8 @@ fn first_layer(p: &Position, barred: &Barred, region: &mut Region) -> Result<(),
     extend(&TurnState::start(p), barred, region)
 }
 
-// Takes the states that one more step makes from those of the top layer, which are kept from a place on, over so many
-// lower layers.
+// Takes the states that one more step makes from those of the top layer, which are kept from a
+// place on, over so many lower layers.
 fn next_layer(
     p: &Position,
     lower: u8,
@@ -230,8 +230,9 @@ fn is_left_at(place: u32, end: u32, square: Square, region: &Region) -> bool
     }
 }
 
-// The state that an accepted step makes, where it is the one that is kept at a place, which is before an end. It isn't
-// made where there is a piece in that one on the square that the step leaves.
+// The state that an accepted step makes, where it is the one that is kept at a place, which is
+// before an end. It isn't made where there is a piece in that one on the square that the step
+// leaves.
 #[inline(always)]
 fn kept_after(
     state: &TurnState,
@@ -260,8 +261,9 @@ fn kept_after(
     }
 }
 
-// Places what the last steps bring about from the states that a step makes of this one, each where it is kept at the next
-// place: that is its first list of steps. The answer is the place after those.
+// Places what the last steps bring about from the states that a step makes of this one, each where
+// it is kept at the next place: that is its first list of steps. The answer is the place after
+// those.
 fn last_steps_from(
     state: &TurnState,
     first: u32,
@@ -288,8 +290,9 @@ fn last_steps_from(
     Ok(next)
 }
 
-// Places what a fourth step brings about from the states after three, which are kept from the place `third` on. They are
-// made again, in order, from those after two, which are kept from `second` on, so that the step that made each is known.
+// Places what a fourth step brings about from the states after three, which are kept from the place
+// `third` on. They are made again, in order, from those after two, which are kept from `second` on,
+// so that the step that made each is known.
 fn last_steps(
     p: &Position,
     second: u32,
@@ -413,9 +416,9 @@ fn second_layer(
     Ok(())
 }
 
-// Takes the states that a third step makes, in order. The states after two steps, which are kept from the place `second`
-// on, are made again from those after one, so that the step that made each is known. Of few states all third steps are
-// taken, which costs less.
+// Takes the states that a third step makes, in order. The states after two steps, which are kept
+// from the place `second` on, are made again from those after one, so that the step that made each
+// is known. Of few states all third steps are taken, which costs less.
 fn third_layer(
     p: &Position,
     second: u32,
@@ -477,8 +480,9 @@ fn fill_layers(p: &Position, until: Until, barred: &Barred, region: &mut Region)
     last_steps(p, second, third, until, barred, region)
 }
 
-/// Fills a new top segment with the results of a position without the barred ones, as `results` does, and the layers
-/// with the distinct states after one, two and three steps, one layer for each number of steps.
+/// Fills a new top segment with the results of a position without the barred ones, as `results`
+/// does, and the layers with the distinct states after one, two and three steps, one layer for each
+/// number of steps.
 ///
 /// Each state is extended once. After a refusal the region is as before. No memory is taken.
 pub fn layered(p: &Position, barred: &Barred, region: &mut Region) -> Result<Mark, LayerFull>
@@ -507,8 +511,8 @@ pub fn layered(p: &Position, barred: &Barred, region: &mut Region) -> Result<Mar
     }
 }
 
-/// The same, but the list may end once it has a position that the rules have decided for the side to
-/// move, and then without all layers.
+/// The same, but the list may end once it has a position that the rules have decided for the side
+/// to move, and then without all layers.
 pub(crate) fn layered_to_win(
     p: &Position,
     barred: &Barred,

@@ -12,12 +12,12 @@ use arimaa_board::Position;
 use arimaa_history::Barred;
 use arimaa_region::{Mark, Region};
 
-/// Fills a new top segment with the results of a position: the distinct positions that its turns bring about, without
-/// the barred ones, in the order of the first turn to each.
+/// Fills a new top segment with the results of a position: the distinct positions that its turns
+/// bring about, without the barred ones, in the order of the first turn to each.
 ///
-/// They are found by layers of distinct turn states, and by a walk over all lists of steps where there are more states
-/// than the layers have places. `Full` comes only where these and the live positions are more than the room. The
-/// region is then as before. No memory is taken.
+/// They are found by layers of distinct turn states, and by a walk over all lists of steps where
+/// there are more states than the layers have places. `Full` comes only where these and the live
+/// positions are more than the room. The region is then as before. No memory is taken.
 pub fn results(p: &Position, barred: &Barred, region: &mut Region) -> Result<Mark, Full>
     requires { length region.old.segments < 64 }
     ensures mark { IfOk result (λ mark. mark ≡ length region.old.segments) }
@@ -37,12 +37,13 @@ pub fn results(p: &Position, barred: &Barred, region: &mut Region) -> Result<Mar
     }
 }
 
-/// Fills a new top segment with the results of a position, as `results` does, or only with the first of
-/// them: the list may end once it has a position that the rules have decided for the side to move.
+/// Fills a new top segment with the results of a position, as `results` does, or only with the
+/// first of them: the list may end once it has a position that the rules have decided for the side
+/// to move.
 ///
-/// A search needs no more of it, since a turn to such a position is decisive. How many results stand
-/// after that one isn't said. `Full` comes only where all results and the live positions are more than
-/// the room, and the region is then as before. No memory is taken.
+/// A search needs no more of it, since a turn to such a position is decisive. How many results
+/// stand after that one isn't said. `Full` comes only where all results and the live positions are
+/// more than the room, and the region is then as before. No memory is taken.
 pub fn results_to_win(p: &Position, barred: &Barred, region: &mut Region) -> Result<Mark, Full>
     requires { length region.old.segments < 64 }
     ensures mark { IfOk result (λ mark. mark ≡ length region.old.segments) }

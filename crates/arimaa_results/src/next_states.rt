@@ -35,7 +35,8 @@ fn same_dir(dir: Dir, other: Dir) -> bool
     }
 }
 
-// The first direction, in the order north, east, south, west, of some steps from a square, of which there is one.
+// The first direction, in the order north, east, south, west, of some steps from a square, of which
+// there is one.
 #[inline(always)]
 fn first_direction(steps: &AcceptedSteps, from: Square) -> Dir
     requires { (((has_step steps.now from North || has_step steps.now from East)
@@ -63,7 +64,8 @@ fn left_of(mask: u64, from: Square, taken: bool) -> u64
     if taken { without(mask, from) } else { mask }
 }
 
-// Takes the first of some steps: by its square, and then by its direction in the order north, east, south, west.
+// Takes the first of some steps: by its square, and then by its direction in the order north, east,
+// south, west.
 #[inline(always)]
 pub(crate) fn take_first(steps: &mut AcceptedSteps) -> Option<(Square, Dir)>
     ensures { IsFirstTaken steps.old result steps.new }
@@ -128,8 +130,9 @@ impl<'a> NextStates<'a> {
         }
     }
 
-    /// Those after a step of a state, and the state `after` it, in order: where that is a single step after which no
-    /// pull may follow, those that the two steps make in the other order are left out.
+    /// Those after a step of a state, and the state `after` it, in order: where that is a single
+    /// step after which no pull may follow, those that the two steps make in the other order are
+    /// left out.
     pub(crate) fn in_order(before: &TurnState, step: &Step, after: &'a TurnState) -> NextStates<'a>
         requires accepted { IsOk (next_answer before.now step.now) }
         requires after { after.now ≡ next_state before.now step.now }
@@ -156,7 +159,8 @@ impl<'a> NextStates<'a> {
         Some((step, self.state.make(&step)))
     }
 
-    /// The next step with what the end of the turn answers after it, if one is left. The next state isn't made.
+    /// The next step with what the end of the turn answers after it, if one is left. The next state
+    /// isn't made.
     #[inline(always)]
     pub(crate) fn advance_last(&mut self) -> Option<(Step, Result<Position, TurnFault>)>
         ensures next { last_of self.old ≡ option_to_list result ++ last_of self.new }

@@ -1,6 +1,7 @@
-//! Measures lists of results at a position, given by the side to move and a board text: `list` by layers, and `walk` the
-//! walk over all lists of steps that finds nothing. Each is made a number of times, and the least time is told. `agree`
-//! tells whether the layers and the walk list the same results in the same order, and how many.
+//! Measures lists of results at a position, given by the side to move and a board text: `list` by
+//! layers, and `walk` the walk over all lists of steps that finds nothing. Each is made a number of
+//! times, and the least time is told. `agree` tells whether the layers and the walk list the same
+//! results in the same order, and how many.
 #![tactic(auto)]
 
 ghost use Rattle.std.specs.Prelude.{◌≡◌, ◌<◌, length};
@@ -52,8 +53,8 @@ fn time_lists(
     Ok((size, least))
 }
 
-// Whether anything was found, and the least time of some walks. What is looked for is the position itself, which no turn
-// brings about, since the other side is then to move.
+// Whether anything was found, and the least time of some walks. What is looked for is the position
+// itself, which no turn brings about, since the other side is then to move.
 fn time_walks(
     rt: &(impl Runtime + AllocGlobal),
     p: &Position,
@@ -82,8 +83,8 @@ fn same_lists(a: &Region, b: &Region) -> bool {
     true
 }
 
-// Whether the layers and the walk list the same results, and how many the layers list. The region of the walk has room
-// for one state alone, so its list is never made by layers.
+// Whether the layers and the walk list the same results, and how many the layers list. The region
+// of the walk has room for one state alone, so its list is never made by layers.
 fn lists_agree(rt: &impl AllocGlobal, p: &Position) -> Result<(bool, u32), AllocError> {
     let barred = Barred::new(rt.alloc());
     let mut by_layers = Region::with_work(rt.alloc(), 262_144, 32_768)?;

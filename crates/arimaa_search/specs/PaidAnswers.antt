@@ -12,12 +12,15 @@ pub record IsPaid (left after price : ℕ) : Type 0 where
   pub falls : after ≤ left
   pub most : left ≤ after + price
 
--- what a question with this verdict, cost and crowd answers, where a region of this room had so many live positions, and so much of the budget was left
+-- what a question with this verdict, cost and crowd answers, where a region of this room had so
+-- many live positions, and so much of the budget was left
 abbrev pub AnsweredBy : Bool → ℕ → ℕ → ℕ → ℕ → ℕ → ℕ → Result Bool Stop → Type 0
 AnsweredBy verdict cost crowd room live left after (Ok v) = (v ≡ verdict) × IsPaid left after cost
 AnsweredBy verdict cost crowd room live left after (Err stop.Spent) = (left < cost) × (after ≡ 0)
-AnsweredBy verdict cost crowd room live left after (Err stop.Crowded) = (room < live + crowd) × IsPaid left after cost
+AnsweredBy verdict cost crowd room live left after (Err stop.Crowded) =
+    (room < live + crowd) × IsPaid left after cost
 
 -- what the question whether a wins p within n turns answers
-abbrev pub Answered : Color → List Position → ℕ → Position → ℕ → ℕ → ℕ → ℕ → Result Bool Stop → Type 0
+abbrev pub Answered : Color → List Position → ℕ → Position → ℕ → ℕ → ℕ → ℕ → Result Bool Stop
+    → Type 0
 Answered a barred n p = AnsweredBy (wins a barred n p) (cost a barred n p) (crowd barred n p)

@@ -9,12 +9,15 @@ use Rattle.arimaa_search.specs.declared.answer.Asked.{Asked}
 use Rattle.arimaa_search.specs.declared.answer.Asked.TheVariants.{Yes, No, Spent, Crowded}
 use Rattle.arimaa_search.specs.Traces.{Tells}
 
--- the answer on p and n, with this room and this budget, where so many questions were opened: a verdict is right, and a stop names the question and has its cause
+-- the answer on p and n, with this room and this budget, where so many questions were opened: a
+-- verdict is right, and a stop names the question and has its cause
 abbrev pub IsAnswer : Color → List Position → ℕ → Position → ℕ → ℕ → ℕ → Asked → Type 0
 IsAnswer a barred n p room budget counted Yes = wins a barred n p ≡ true
 IsAnswer a barred n p room budget counted No = wins a barred n p ≡ false
-IsAnswer a barred n p room budget counted (Spent q m k) = (q ≡ p) × (m ≡ n) × (k ≡ budget) × (counted ≡ budget) × (budget < cost a barred n p)
-IsAnswer a barred n p room budget counted (Crowded q m) = (q ≡ p) × (m ≡ n) × (room < crowd barred n p)
+IsAnswer a barred n p room budget counted (Spent q m k) =
+    (q ≡ p) × (m ≡ n) × (k ≡ budget) × (counted ≡ budget) × (budget < cost a barred n p)
+IsAnswer a barred n p room budget counted (Crowded q m) =
+    (q ≡ p) × (m ≡ n) × (room < crowd barred n p)
 
 -- the answer is yes or no
 abbrev pub IsVerdict : Asked → Type 0

@@ -26,10 +26,14 @@ pub record Tells (line : Line) (p : Position) (depth : ℕ) (verdict : Bool) : T
 abbrev pub Stepped : ℕ → (ℕ → ℕ) → (ℕ → ℕ) → Position → Type 0
 Stepped lines old new q = old (place_of q lines) < new (place_of q lines)
 
--- it made steps at the line of each next position of p, up to and including the first that is decisive at this depth
+-- it made steps at the line of each next position of p, up to and including the first that is
+-- decisive at this depth
 abbrev pub SteppedThrough : Color → List Position → ℕ → ℕ → Position → (ℕ → ℕ) → (ℕ → ℕ) → Type 0
-SteppedThrough a barred lines depth p old new = (q : Position) → Stands (looked_at a barred depth p) q → Stepped lines old new q
+SteppedThrough a barred lines depth p old new = (q : Position)
+    → Stands (looked_at a barred depth p) q → Stepped lines old new q
 
--- the look through the next positions of p goes past the first of them: it is not decisive at this depth
+-- the look through the next positions of p goes past the first of them: it is not decisive at this
+-- depth
 abbrev pub GoesPast : Color → List Position → ℕ → Position → Position → Type 0
-GoesPast a barred depth p q = (next barred p ≡ q ∷ drop 1 (next barred p)) × (is_decisive a barred depth p q ≡ false)
+GoesPast a barred depth p q = (next barred p ≡ q ∷ drop 1 (next barred p))
+    × (is_decisive a barred depth p q ≡ false)

@@ -9,7 +9,8 @@ use arimaa_step::apply;
 
 /// The first of the next positions, if there is one. No memory is taken.
 pub(crate) fn first_reply(p: &Position, barred: &Barred) -> Option<Position>
-    ensures first { IfSome result (λ q. next barred.now p.now ≡ q ∷ drop 1 (next barred.now p.now)) }
+    ensures first { IfSome result
+        (λ q. next barred.now p.now ≡ q ∷ drop 1 (next barred.now p.now)) }
     ensures none { IfNone result (next barred.now p.now ≡ []) }
 {
     let turn = first_turn_where(p, &Unbarred { barred })?;

@@ -12,7 +12,8 @@ use arimaa_table::{Looked, Table, TablePass};
 // The verdict that a line has on a question: one where it names the position whole.
 fn verdict_of(table: &Table, line: &Line, p: &Position, depth: u8) -> Option<bool>
     requires { IsTrueIn table.now line.now }
-    ensures verdict { IfSome result (λ v. v ≡ wins (setting_of table.now).attacker (setting_of table.now).barred depth p.now) }
+    ensures verdict { IfSome result
+        (λ v. v ≡ wins (setting_of table.now).attacker (setting_of table.now).barred depth p.now) }
     ensures told { IfSome result (λ v. Tells line.now p.now depth v) }
 {
     let bounds = table.read(line, p)?;
@@ -35,8 +36,11 @@ pub(crate) fn recall(
     ensures later { KeepsNoOlder pass.old pass.new }
     ensures grown { NoFewer (steps_of pass.old) (steps_of pass.new) }
     ensures here { Stepped (lines_of table.now) (steps_of pass.old) (steps_of pass.new) p.now }
-    ensures verdict { IfSome result (λ v. v ≡ wins (setting_of table.now).attacker (setting_of table.now).barred depth p.now) }
-    ensures told { IfSome result (λ v. Tells (place_view pass.new (place_of p.now (lines_of table.now))).kept p.now depth v) }
+    ensures verdict { IfSome result
+        (λ v. v ≡ wins (setting_of table.now).attacker (setting_of table.now).barred depth p.now) }
+    ensures told { IfSome result
+        (λ v. Tells (place_view pass.new (place_of p.now (lines_of table.now))).kept p.now depth
+        v) }
 {
     match table.look(pass, place) {
         Looked::Found(line) => verdict_of(table, &line, p, depth),

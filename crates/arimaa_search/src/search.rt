@@ -41,9 +41,15 @@ pub(crate) fn ask(
     ensures segments { region.new.segments ≡ region.old.segments }
     ensures room { region.new.room ≡ region.old.room }
     ensures here { Stepped (lines_of table.now) (steps_of pass.old) (steps_of pass.new) p.now }
-    ensures told { left.new ≡ left.old → IfOk result (λ v. Tells (place_view pass.new (place_of p.now (lines_of table.now))).kept p.now depth v) }
-    ensures replies { left.new < left.old → decided p.now ≡ None → 1 ≤ depth → OnOk result (SteppedThrough (setting_of table.now).attacker (setting_of table.now).barred (lines_of table.now) (depth - 1) p.now (steps_of pass.old) (steps_of pass.new)) }
-    ensures answer { Answered (setting_of table.now).attacker (setting_of table.now).barred depth p.now region.old.room (length (live_of region.old.segments)) left.old left.new result }
+    ensures told { left.new ≡ left.old
+        → IfOk result (λ v. Tells
+        (place_view pass.new (place_of p.now (lines_of table.now))).kept p.now depth v) }
+    ensures replies { left.new < left.old → decided p.now ≡ None → 1 ≤ depth
+        → OnOk result (SteppedThrough (setting_of table.now).attacker (setting_of table.now).barred
+        (lines_of table.now) (depth - 1) p.now (steps_of pass.old) (steps_of pass.new)) }
+    ensures answer { Answered (setting_of table.now).attacker
+        (setting_of table.now).barred depth p.now region.old.room
+        (length (live_of region.old.segments)) left.old left.new result }
 {
     let place = index_of(p, table.lines());
     if let Some(verdict) = recall(table, pass, place, p, depth) {
@@ -73,8 +79,12 @@ fn open_up(
     ensures segments { region.new.segments ≡ region.old.segments }
     ensures room { region.new.room ≡ region.old.room }
     ensures counted { OnOk result (left.new < left.old) }
-    ensures replies { left.new < left.old → decided p.now ≡ None → 1 ≤ depth → OnOk result (SteppedThrough (setting_of table.now).attacker (setting_of table.now).barred (lines_of table.now) (depth - 1) p.now (steps_of pass.old) (steps_of pass.new)) }
-    ensures answer { Answered (setting_of table.now).attacker (setting_of table.now).barred depth p.now region.old.room (length (live_of region.old.segments)) left.old left.new result }
+    ensures replies { left.new < left.old → decided p.now ≡ None → 1 ≤ depth
+        → OnOk result (SteppedThrough (setting_of table.now).attacker (setting_of table.now).barred
+        (lines_of table.now) (depth - 1) p.now (steps_of pass.old) (steps_of pass.new)) }
+    ensures answer { Answered (setting_of table.now).attacker
+        (setting_of table.now).barred depth p.now region.old.room
+        (length (live_of region.old.segments)) left.old left.new result }
 {
     if *left == 0 {
         return Err(Stop::Spent);
@@ -89,9 +99,9 @@ fn open_up(
     look_through(table, pass, region, left, p, depth - 1)
 }
 
-// Asks about the next positions of an undecided position in order, up to the first that is decisive.
-// Most looks end at the first of all, so the list of them is made only where this one goes on, and
-// only up to a position that the side to move has won.
+// Asks about the next positions of an undecided position in order, up to the first that is
+// decisive. Most looks end at the first of all, so the list of them is made only where this one
+// goes on, and only up to a position that the side to move has won.
 #[cycle(search)]
 fn look_through(
     table: &Table,
@@ -111,8 +121,12 @@ fn look_through(
     ensures segments { region.new.segments ≡ region.old.segments }
     ensures room { region.new.room ≡ region.old.room }
     ensures spent { left.new ≤ left.old }
-    ensures replies { OnOk result (SteppedThrough (setting_of table.now).attacker (setting_of table.now).barred (lines_of table.now) depth p.now (steps_of pass.old) (steps_of pass.new)) }
-    ensures answer { Answered (setting_of table.now).attacker (setting_of table.now).barred (suc depth) p.now region.old.room (length (live_of region.old.segments)) (left.old + 1) left.new result }
+    ensures replies { OnOk result
+        (SteppedThrough (setting_of table.now).attacker (setting_of table.now).barred
+        (lines_of table.now) depth p.now (steps_of pass.old) (steps_of pass.new)) }
+    ensures answer { Answered (setting_of table.now).attacker (setting_of table.now).barred
+        (suc depth) p.now region.old.room (length (live_of region.old.segments))
+        (left.old + 1) left.new result }
 {
     let own = p.side == table.attacker();
     let barred = table.barred();
@@ -152,7 +166,8 @@ fn look_on(
     requires depth { depth < 20 }
     requires undecided { decided p.now ≡ None }
     requires open { 0 < length region.old.segments }
-    requires listed { IsListed (list_any (is_won_by p.now.side) (top region.old.segments)) (setting_of table.now).barred p.now (top region.old.segments) }
+    requires listed { IsListed (list_any (is_won_by p.now.side) (top region.old.segments))
+        (setting_of table.now).barred p.now (top region.old.segments) }
     requires first { first ≡ length (live_of (below_top region.old.segments)) }
     requires some { 1 ≤ length (top region.old.segments) }
     ensures pass { IsPassOf table.now pass.new }
@@ -161,8 +176,18 @@ fn look_on(
     ensures segments { region.new.segments ≡ region.old.segments }
     ensures room { region.new.room ≡ region.old.room }
     ensures spent { left.new ≤ left.old }
-    ensures replies { (reply : Position) (began : ℕ → ℕ) → GoesPast (setting_of table.now).attacker (setting_of table.now).barred depth p.now reply → NoFewer began (steps_of pass.old) → Stepped (lines_of table.now) began (steps_of pass.old) reply → OnOk result (SteppedThrough (setting_of table.now).attacker (setting_of table.now).barred (lines_of table.now) depth p.now began (steps_of pass.new)) }
-    ensures answer { (reply : Position) → GoesPast (setting_of table.now).attacker (setting_of table.now).barred depth p.now reply → Answered (setting_of table.now).attacker (setting_of table.now).barred (suc depth) p.now region.old.room first (left.old + cost (setting_of table.now).attacker (setting_of table.now).barred depth reply + 1) left.new result }
+    ensures replies { (reply : Position) (began : ℕ → ℕ)
+        → GoesPast (setting_of table.now).attacker (setting_of table.now).barred depth p.now reply
+        → NoFewer began (steps_of pass.old)
+        → Stepped (lines_of table.now) began (steps_of pass.old) reply
+        → OnOk result (SteppedThrough (setting_of table.now).attacker (setting_of table.now).barred
+        (lines_of table.now) depth p.now began (steps_of pass.new)) }
+    ensures answer { (reply : Position)
+        → GoesPast (setting_of table.now).attacker (setting_of table.now).barred depth p.now reply
+        → Answered (setting_of table.now).attacker (setting_of table.now).barred
+        (suc depth) p.now region.old.room first
+        (left.old + cost (setting_of table.now).attacker (setting_of table.now).barred depth reply
+        + 1) left.new result }
 {
     let own = p.side == table.attacker();
     let end = region.live();

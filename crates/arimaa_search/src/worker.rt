@@ -81,13 +81,22 @@ impl Worker {
         ensures grown { NoFewer (steps_of pass.old) (steps_of pass.new) }
         ensures room { self.new.room ≡ self.old.room }
         ensures budget { self.new.budget ≡ self.old.budget }
-        ensures answer { IsAnswer (setting_of table.now).attacker (setting_of table.now).barred depth p.now self.old.room self.old.budget self.new.counted result }
-        ensures within_cost { self.new.counted ≤ cost (setting_of table.now).attacker (setting_of table.now).barred depth p.now }
+        ensures answer { IsAnswer (setting_of table.now).attacker
+            (setting_of table.now).barred depth p.now self.old.room self.old.budget self.new.counted
+            result }
+        ensures within_cost { self.new.counted ≤ cost (setting_of table.now).attacker
+            (setting_of table.now).barred depth p.now }
         ensures within_budget { self.new.counted ≤ self.old.budget }
         ensures here { Stepped (lines_of table.now) (steps_of pass.old) (steps_of pass.new) p.now }
-        ensures told { self.new.counted ≡ 0 → IsTold (place_view pass.new (place_of p.now (lines_of table.now))).kept p.now depth result }
-        ensures replies { IsVerdict result → 0 < self.new.counted → decided p.now ≡ None → 1 ≤ depth → SteppedThrough (setting_of table.now).attacker (setting_of table.now).barred (lines_of table.now) (depth - 1) p.now (steps_of pass.old) (steps_of pass.new) }
-        ensures enough { cost (setting_of table.now).attacker (setting_of table.now).barred depth p.now ≤ self.old.budget → crowd (setting_of table.now).barred depth p.now ≤ self.old.room → IsVerdict result }
+        ensures told { self.new.counted ≡ 0
+            → IsTold (place_view pass.new (place_of p.now (lines_of table.now))).kept p.now depth
+            result }
+        ensures replies { IsVerdict result → 0 < self.new.counted → decided p.now ≡ None → 1 ≤ depth
+            → SteppedThrough (setting_of table.now).attacker (setting_of table.now).barred
+            (lines_of table.now) (depth - 1) p.now (steps_of pass.old) (steps_of pass.new) }
+        ensures enough { cost (setting_of table.now).attacker
+            (setting_of table.now).barred depth p.now ≤ self.old.budget
+            → crowd (setting_of table.now).barred depth p.now ≤ self.old.room → IsVerdict result }
     {
         let mut left = self.budget;
         let answer = ask(table, pass, &mut self.region, &mut left, p, depth);

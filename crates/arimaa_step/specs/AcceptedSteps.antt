@@ -36,12 +36,15 @@ mask_towards a West = a.west
 abbrev pub AreAccepted : TurnState → AcceptedSteps → Type 0
 AreAccepted st steps = (d : Dir) → IsMaskOf (accepts st d) (mask_towards steps d)
 
--- whether a state accepts the step of what stands on a square in a direction, and the steps are then whole moves
+-- whether a state accepts the step of what stands on a square in a direction, and the steps are
+-- then whole moves
 abbrev pub ends_content : TurnState → Dir → ℕ → Option Piece → Bool
 ends_content st d n None = false
-ends_content st d n (Some p) = is_ok (next_answer st (step_of n d p)) && cuts_next st (step_of n d p)
+ends_content st d n (Some p) = is_ok (next_answer st (step_of n d p))
+    && cuts_next st (step_of n d p)
 
--- whether a state accepts the step of the piece on a square in a direction, and the steps are then whole moves
+-- whether a state accepts the step of the piece on a square in a direction, and the steps are then
+-- whole moves
 abbrev pub ends_by : TurnState → Dir → ℕ → Bool
 ends_by st d n = ends_content st d n (at st.board n)
 
@@ -65,7 +68,8 @@ is_left (Some left) n = n == left.0
 -- whether what stands on a square could make the open push
 abbrev pub may_push : TurnState → Option (ℕ × Piece) → ℕ → Bool
 may_push st None n = false
-may_push st (Some left) n = if st.count == 1 then can_push st.start.board left.1 (Some n) else can_push st.board left.1 (Some n)
+may_push st (Some left) n = if st.count == 1 then can_push st.start.board left.1 (Some n)
+    else can_push st.board left.1 (Some n)
 
 -- whether what stands on a square is weaker than the puller, and its enemy
 abbrev pub may_be_pulled : Board → Option (ℕ × Piece) → ℕ → Bool

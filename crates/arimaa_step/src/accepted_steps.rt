@@ -86,7 +86,8 @@ fn kept_back(rabbits: u64, side: Color, dir: Dir) -> u64
 }
 
 impl Movers {
-    // The squares from which a step in a direction is accepted, in a state with fewer than four steps.
+    // The squares from which a step in a direction is accepted, in a state with fewer than four
+    // steps.
     #[inline(always)]
     fn towards(&self, side: Color, dir: Dir) -> u64
         ensures { (st : TurnState) → st.start.side ≡ side → st.count < 4
@@ -101,8 +102,8 @@ impl Movers {
 }
 
 impl Movers {
-    // The squares from which a step in a direction ends a move, in a state with fewer than four steps: all that are
-    // accepted but those that only begin a push.
+    // The squares from which a step in a direction ends a move, in a state with fewer than four
+    // steps: all that are accepted but those that only begin a push.
     #[inline(always)]
     fn ending_towards(&self, side: Color, dir: Dir) -> u64
         ensures { (st : TurnState) → st.start.side ≡ side → st.count < 4
@@ -117,8 +118,9 @@ impl Movers {
 }
 
 impl TurnState {
-    // The pieces that could make the open push. On the start board this is looked up, since a trap of it may hold a
-    // piece without a friend; later the first half of a push never freezes or frees the pusher.
+    // The pieces that could make the open push. On the start board this is looked up, since a trap
+    // of it may hold a piece without a friend; later the first half of a push never freezes or
+    // frees the pusher.
     #[inline(always)]
     fn pushers(&self, left: Option<(Square, Piece)>) -> u64
         ensures { IsMaskOf (may_push self.now left) result }
@@ -196,8 +198,8 @@ impl TurnState {
         }
     }
 
-    /// The steps that the state accepts after which its steps can be cut into whole moves: the accepted ones but those
-    /// that only begin a push.
+    /// The steps that the state accepts after which its steps can be cut into whole moves: the
+    /// accepted ones but those that only begin a push.
     pub fn ending(&self) -> AcceptedSteps
         ensures { AreEnding self.now result }
     {

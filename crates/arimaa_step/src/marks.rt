@@ -50,7 +50,8 @@ fn all_fit(board: &Board, steps: &[NotedStep], rule: Marks) -> bool
 pub fn marks_fit(p: &Position, noted: &Noted, rule: Marks) -> bool
     ensures value { result ≡ marks_fit rule p.now.board noted.now }
     ensures meaning { IsTrue result ↔ MarksFit rule p.now.board noted.now }
-    ensures required { rule ≡ Required → result ≡ marks_right p.now.board (noted_turn noted.now) (noted_marks noted.now) }
+    ensures required { rule ≡ Required → result
+        ≡ marks_right p.now.board (noted_turn noted.now) (noted_marks noted.now) }
 {
     all_fit(&p.board, noted.steps(), rule)
 }

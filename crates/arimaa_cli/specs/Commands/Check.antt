@@ -63,7 +63,8 @@ abbrev pub IsCheckingInRange : Checking → Type 0
 IsCheckingInRange asked = (asked.depth ≤ MOST_TURNS) × IsRoomGiven asked.room
 
 -- the words ask this of a command of this name
-pub record AreCheckingWords (name : List ℕ) (words : List (List ℕ)) (asked : Checking) : Type 0 where
+pub record AreCheckingWords (name : List ℕ) (words : List (List ℕ))
+    (asked : Checking) : Type 0 where
   pub form : words ≡ checking_words name asked
   pub in_range : IsCheckingInRange asked
 
@@ -118,7 +119,8 @@ pub data IsStrategyAnswer (asked : Checking) (game : Game) (lines : ℕ)
   -- a line is no entry: the first such line of the input
   bad_line : (p : Position) → IsOpenAt game p → (text : List ℕ) (number : ℕ)
       → IsFirstBadLine asked.attacker (lines_of text) number
-      → IsStrategyAnswer asked game lines (Some text) (Answered (bad_line_text strategy_word (lines + number)))
+      → IsStrategyAnswer asked game lines (Some text)
+      (Answered (bad_line_text strategy_word (lines + number)))
   -- a strategy: what the checker finds
   checked : (p : Position) → IsOpenAt game p → (text : List ℕ) (s : List Entry)
       → IsStrategyText text asked.attacker s → (found : Checked)

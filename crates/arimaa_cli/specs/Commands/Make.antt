@@ -44,7 +44,8 @@ pub record GoesOnAt (h : List Position) (p : Position) : Type 0 where
 
 -- what becomes of a record with so many turns to make, where the generator is at this number, this
 -- label is due, and the game has this history: its text, or the position whose list is too long
-pub data IsMadeFrom : ℕ → ℕ → Label → List Position → List ℕ → Result (List ℕ) Position → Type 0 where
+pub data IsMadeFrom : ℕ → ℕ → Label → List Position → List ℕ → Result (List ℕ) Position
+    → Type 0 where
   -- no more turns are to be made
   enough : (number : ℕ) (due : Label) (h : List Position) (text : List ℕ)
       → IsMadeFrom zero number due h text (Ok text)

@@ -36,7 +36,8 @@ pub record IsAmple (asked : Asked) (h : List Position) (p : Position) : Type 0 w
 
 -- what the maker finds of the position p that the history h ends with: its own escapes, which hold
 -- it; that it is won; or a stop with its cause, which doesn't come where budget and room are ample
-pub record IsMade (asked : Asked) (h : List Position) (p : Position) (found : Refuted) : Type 0 where
+pub record IsMade (asked : Asked) (h : List Position) (p : Position)
+    (found : Refuted) : Type 0 where
   pub right : IsRefuted asked.attacker (barred_by h) asked.settings.budget asked.settings.room p
       asked.depth found
   pub complete : IsAmple asked h p → IsDone found

@@ -47,7 +47,8 @@ pub data IsEscapesAnswer (asked : Checking) (h : List Position) (p : Position) (
     (text : List ℕ) : Answer → Type 0 where
   -- a line is no escape: the first such line of the input
   bad_line : (number : ℕ) → IsFirstBadLine asked.attacker (lines_of text) number
-      → IsEscapesAnswer asked h p lines text (Answered (bad_line_text escapes_word (lines + number)))
+      → IsEscapesAnswer asked h p lines text
+      (Answered (bad_line_text escapes_word (lines + number)))
   -- what is found of the escapes; where they are accepted, the attacker doesn't win
   verified : (c : List Escape) → IsEscapesText text asked.attacker c → (found : Verified)
       → IsVerified asked.attacker (barred_by h) asked.depth (room_of asked.room) c p found

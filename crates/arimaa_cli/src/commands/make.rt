@@ -88,7 +88,8 @@ fn pick(p: &Position, barred: &Barred, number: u64, region: &mut Region) -> Opti
 fn play(game: &mut Game, turn: &Turn, p: &Position, q: &Position) -> Result<(), AllocError>
     requires on { ending_of game.old ≡ None }
     requires last { present game.old.history ≡ Some p.now }
-    requires place { (k : ℕ) × (slice_get (next (barred_by game.old.history) p.now) k ≡ Some q.now) }
+    requires place { (k : ℕ)
+        × (slice_get (next (barred_by game.old.history) p.now) k ≡ Some q.now) }
     requires reaches { result_of p.now turn.now ≡ Some q.now }
     ensures { OnOk result (game.new ≡ grown game.old q.now) }
 {
