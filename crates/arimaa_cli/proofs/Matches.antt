@@ -1,4 +1,4 @@
--- What comes of a match: its status, the cause of an engine's fault, and the one control that words name.
+-- What comes of a match: its status, the cause of an engine's fault, and the one match that words ask for.
 use Rattle.std.proofs.Common.{◌≡◌, ℕ, List, [], get_or, Option, inl, inr, refl, sym, ◌∙◌, ap, subst, ⊎_elim}
 use Rattle.std.specs.Prelude.{◌⊎◌}
 use Rattle.arimaa_outside.specs.Counts.{Counts}
@@ -32,10 +32,14 @@ status_among (end.Engine side why) result (inl e) = inr (inl e)
 status_among (end.Won winner why) result (inl e) = inl e
 status_among end.Limit result (inl e) = inl e
 
--- the words name one control
-pub one_control : (words : List (List ℕ)) (a b : Pairing) → AsksToPlay words a → AsksToPlay words b → a.control ≡ b.control
-one_control words a b p q =
-    let texts : p.text ≡ q.text = ap (λ (l : List (List ℕ)). get_or l 3 []) (sym p.form ∙ q.form) in
+-- the words ask for one match
+pub one_match : (words : List (List ℕ)) (a b : Pairing) → AsksToPlay words a → AsksToPlay words b → a ≡ b
+one_match words a b p q =
+    let forms = sym p.form ∙ q.form in
+    let gold : a.gold ≡ b.gold = ap (λ (l : List (List ℕ)). get_or l 1 []) forms in
+    let silver : a.silver ≡ b.silver = ap (λ (l : List (List ℕ)). get_or l 2 []) forms in
+    let texts : p.text ≡ q.text = ap (λ (l : List (List ℕ)). get_or l 3 []) forms in
     let laws = read_laws p.text _ refl in
     let both = sym (laws.only a.control p.control) ∙ laws.only b.control (subst (λ t. IsControl t b.control) (sym texts) q.control) in
-    cc
+    let control : a.control ≡ b.control = cc in
+    λ i. record { gold = gold i; silver = silver i; control = control i }

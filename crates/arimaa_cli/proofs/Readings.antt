@@ -8,7 +8,7 @@ use Rattle.arimaa_outside.specs.Counts.{Counts}
 use Rattle.arimaa_outside.specs.declared.port_answer.PortAnswer.{PortAnswer}
 use Rattle.arimaa_outside.specs.declared.port_fault.PortFault.TheVariants as port
 use Rattle.arimaa_outside.specs.declared.status.Status.TheVariants.{Memory}
-use Rattle.arimaa_time.specs.declared.control.Control.{Control}
+use Rattle.arimaa_cli.specs.declared.play.Pairing.{Pairing}
 use Rattle.arimaa_match.specs.Programs.{Spawned}
 use Rattle.arimaa_cli.specs.declared.commands.Call.{Call}
 use Rattle.arimaa_cli.specs.declared.commands.Command.{Command}
@@ -81,9 +81,9 @@ told_same None = refl
 told_same (Some left) = refl
 
 -- a match for which no memory was left before it began
-pub unplayed : {L : Type 0} (sent : L → Option (List (List ℕ))) (answers : L → Option (List PortAnswer)) (counts : L → Counts) (control : Control)
-    (s : Spawned L) (c : Counts) (moments before : Option (List ℕ)) → Played sent answers counts control Memory s s c c moments moments before before
-unplayed sent answers counts control s c moments before = record {
+pub unplayed : {L : Type 0} (sent : L → Option (List (List ℕ))) (answers : L → Option (List PortAnswer)) (counts : L → Counts) (asked : Pairing)
+    (s : Spawned L) (c : Counts) (moments before : Option (List ℕ)) → Played sent answers counts asked Memory s s c c moments moments before before
+unplayed sent answers counts asked s c moments before = record {
   outcome = Err alloc_error;
   went = inl (
     refl,

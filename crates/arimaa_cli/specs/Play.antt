@@ -7,13 +7,12 @@ use Rattle.arimaa_outside.specs.declared.status.Status.{Status}
 use Rattle.arimaa_outside.specs.declared.status.Status.TheVariants.{Done, EngineFault, Memory, WriteFault}
 use Rattle.arimaa_engine.specs.declared.fault.EngineFault.{EngineFault as Fault}
 use Rattle.arimaa_engine.specs.Faults.{IsCause}
-use Rattle.arimaa_time.specs.declared.control.Control.{Control}
 use Rattle.arimaa_time.specs.Fields.{IsControl}
 use Rattle.arimaa_match.specs.declared.ending.MatchDone.{MatchDone}
 use Rattle.arimaa_match.specs.declared.ending.MatchEnd.{MatchEnd}
 use Rattle.arimaa_match.specs.declared.ending.MatchEnd.TheVariants as end
 use Rattle.arimaa_match.specs.Parts.{IsNoMemory}
-use Rattle.arimaa_match.specs.Programs.{ProgramsWent, Spawned}
+use Rattle.arimaa_match.specs.Programs.{Programs, ProgramsWent, Spawned}
 use Rattle.arimaa_match.specs.Records.{IsLawfulMatch}
 use Rattle.arimaa_match.specs.Texts.{text_of_match}
 use Rattle.arimaa_cli.specs.declared.play.Pairing.{Pairing}
@@ -30,6 +29,10 @@ pub record AsksToPlay (words : List (List ℕ)) (asked : Pairing) : Type 0 where
   pub silver : IsTextWord asked.silver
   pub plain : IsTextWord text
   pub control : IsControl text asked.control
+
+-- the words that name the programs of a match that is asked for
+abbrev pub programs_of : Pairing → Programs
+programs_of asked = record { gold = asked.gold; silver = asked.silver }
 
 -- the words ask for no match
 abbrev pub AsksNoMatch : List (List ℕ) → Type 0
@@ -62,15 +65,17 @@ pub record HasEngineFault (counts now : Counts) : Type 0 where
   pub cause : IsCause counts now why
   pub no_memory : IsNoMemory why
 
--- how a match under a control went and what was told of it, by what the spawner tells and counts,
--- the moments of the clock, and the bytes of the sink
+-- how the match that was asked for went and what was told of it, by what the spawner tells and
+-- counts, the moments of the clock, and the bytes of the sink
 pub record Played {L : Type 0} (sent : L → Option (List (List ℕ)))
-    (answers : L → Option (List PortAnswer)) (link_counts : L → Counts) (control : Control)
+    (answers : L → Option (List PortAnswer)) (link_counts : L → Counts) (asked : Pairing)
     (result : Status) (old new : Spawned L) (counts now : Counts)
     (moments later : Option (List ℕ)) (before after : Option (List ℕ)) : Type 0 where
-  -- what came of the match is what the fold over the answers and the moments gives
+  -- the programs that were started are those that were asked for, and what came of the match is
+  -- what the fold over the answers and the moments gives
   pub outcome : Result MatchDone AllocError
-  pub went : ProgramsWent sent answers link_counts control old new moments later outcome
+  pub went : ProgramsWent sent answers link_counts asked.control (programs_of asked) old new
+      moments later outcome
   pub told : IsTold result before after outcome
   -- the judge finds the record lawful, with the match's winner and cause
   pub lawful : IfOk outcome (λ m. result ≢ Memory → IsLawfulMatch m)

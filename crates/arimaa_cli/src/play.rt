@@ -4,6 +4,7 @@ ghost use Rattle.arimaa_outside.specs.Counts.{NeverFall};
 ghost use Rattle.arimaa_judge.specs.Texts.{line};
 ghost use Rattle.arimaa_outside.specs.declared.status.Status.TheVariants.{Memory, Words};
 ghost use Rattle.arimaa_outside.specs.Writing.{EndsWith, Outputs};
+ghost use Rattle.arimaa_match.specs.Programs.{spawned_of};
 ghost use Rattle.arimaa_cli.specs.declared.play.Pairing.{Pairing as Match};
 ghost use Rattle.arimaa_cli.specs.Play.{AsksNoMatch, AsksToPlay, Played, status_at};
 ghost use Rattle.arimaa_cli.specs.Reading.{AsRead};
@@ -65,17 +66,9 @@ pub(crate) fn play<O: Sink, S: Spawner, K: Clock>(
     spawner: &mut S,
     clock: &mut K,
 ) -> Status
-    ensures played { Played S.Link.sent S.Link.answers S.Link.counts asked.now.control result
-        (record {
-          waiting = S.waiting spawner.old;
-          back = S.back spawner.old;
-          answers = S.answers spawner.old;
-        })
-        (record {
-          waiting = S.waiting spawner.new;
-          back = S.back spawner.new;
-          answers = S.answers spawner.new;
-        })
+    ensures played { Played S.Link.sent S.Link.answers S.Link.counts asked.now result
+        (spawned_of S.waiting S.back S.answers spawner.old)
+        (spawned_of S.waiting S.back S.answers spawner.new)
         (S.counts spawner.old) (S.counts spawner.new) (K.given clock.old) (K.given clock.new)
         (O.contents output.old) (O.contents output.new) }
     ensures output { Outputs result (O.contents output.old) (O.contents output.new)
@@ -108,17 +101,9 @@ pub fn run_play<O: Sink, S: Spawner, K: Clock>(
     clock: &mut K,
 ) -> Status
     ensures played { AsRead words.now (λ read. (asked : Match) → AsksToPlay read asked
-        → Played S.Link.sent S.Link.answers S.Link.counts asked.control result
-        (record {
-          waiting = S.waiting spawner.old;
-          back = S.back spawner.old;
-          answers = S.answers spawner.old;
-        })
-        (record {
-          waiting = S.waiting spawner.new;
-          back = S.back spawner.new;
-          answers = S.answers spawner.new;
-        })
+        → Played S.Link.sent S.Link.answers S.Link.counts asked result
+        (spawned_of S.waiting S.back S.answers spawner.old)
+        (spawned_of S.waiting S.back S.answers spawner.new)
         (S.counts spawner.old) (S.counts spawner.new) (K.given clock.old) (K.given clock.new)
         (O.contents output.old) (O.contents output.new)) }
     ensures bad_words { AsRead words.now (λ read. AsksNoMatch read → result ≢ Memory

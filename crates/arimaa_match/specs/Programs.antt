@@ -60,6 +60,11 @@ unopened side fault.Long = Ok (unbegun side fault.Long)
 unopened side fault.Silent = Ok (unbegun side fault.Silent)
 unopened side (fault.Version text) = Ok (unbegun side (fault.Version text))
 
+-- the words that name the programs of both sides
+pub record Programs : Type 0 where
+  pub gold : List ℕ
+  pub silver : List ℕ
+
 -- what a spawner tells: the links to hand out, those that it took back, and its answers
 pub record Spawned (L : Type 0) : Type 0 where
   pub waiting : Option (List L)
@@ -83,44 +88,46 @@ pub record Hands {L : Type 0} (old new : Spawned L) (out returned : List L)
   pub answers : new.answers ≡ told_after old.answers given
 
 -- Gold's program was not started
-pub record GoldUnstarted {L : Type 0} (old new : Spawned L)
+pub record GoldUnstarted {L : Type 0} (program : List ℕ) (old new : Spawned L)
     (result : Result MatchDone AllocError) : Type 0 where
   pub refusal : PortFault
-  pub hands : Hands old new [] [] (refused_open refusal)
+  pub hands : Hands old new [] [] (refused_open program refusal)
   pub outcome : result ≡ unstarted Gold refusal
 
 -- Silver's program was not started, and Gold's link was given back as it was
-pub record SilverUnstarted {L : Type 0} (old new : Spawned L)
+pub record SilverUnstarted {L : Type 0} (programs : Programs) (old new : Spawned L)
     (result : Result MatchDone AllocError) : Type 0 where
   pub refusal : PortFault
   pub gold : L
-  pub hands : Hands old new (gold ∷ []) (gold ∷ []) (Opened ∷ refused_open refusal)
+  pub hands : Hands old new (gold ∷ []) (gold ∷ [])
+      (Opened programs.gold ∷ refused_open programs.silver refusal)
   pub outcome : result ≡ unstarted Silver refusal
 
 module _ {L : Type 0} (sent : L → Option (List (List ℕ))) (answers : L → Option (List PortAnswer))
     (counts : L → Counts) where
   -- both programs were started, the match went so over their links, and both were given back,
   -- Gold's first
-  pub record BothStarted (control : Control) (old new : Spawned L) (before after : Option (List ℕ))
-      (result : Result MatchDone AllocError) : Type 0 where
+  pub record BothStarted (control : Control) (programs : Programs) (old new : Spawned L)
+      (before after : Option (List ℕ)) (result : Result MatchDone AllocError) : Type 0 where
     pub gold : L
     pub silver : L
     pub gold_back : L
     pub silver_back : L
     pub hands : Hands old new (gold ∷ silver ∷ []) (gold_back ∷ silver_back ∷ [])
-        (Opened ∷ Opened ∷ [])
+        (Opened programs.gold ∷ Opened programs.silver ∷ [])
     pub went : Went (match_of_programs control)
         (scene_of (view_of sent answers counts gold) (view_of sent answers counts silver) before)
         (scene_of (view_of sent answers counts gold_back)
         (view_of sent answers counts silver_back) after)
         result
 
-  -- a match between two programs went so; before both are started the clock is not asked
-  abbrev pub ProgramsWent : Control → Spawned L → Spawned L → Option (List ℕ) → Option (List ℕ)
-      → Result MatchDone AllocError → Type 0
-  ProgramsWent control old new before after result =
-      ((after ≡ before) × (GoldUnstarted old new result ⊎ SilverUnstarted old new result))
-      ⊎ BothStarted control old new before after result
+  -- a match between these programs went so; before both are started the clock is not asked
+  abbrev pub ProgramsWent : Control → Programs → Spawned L → Spawned L → Option (List ℕ)
+      → Option (List ℕ) → Result MatchDone AllocError → Type 0
+  ProgramsWent control programs old new before after result =
+      ((after ≡ before) × (GoldUnstarted programs.gold old new result
+      ⊎ SilverUnstarted programs old new result))
+      ⊎ BothStarted control programs old new before after result
 
 -- where an engine fault ends a match between programs, it is none of memory and has its cause in
 -- what the spawner counted, with the links that it took back

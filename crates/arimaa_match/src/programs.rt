@@ -185,6 +185,7 @@ pub fn play_programs<S: Spawner, K: Clock>(
     clock: &mut K,
 ) -> Result<MatchDone, AllocError>
     ensures went { ProgramsWent S.Link.sent S.Link.answers S.Link.counts control.now
+        (record { gold = gold.now; silver = silver.now })
         (spawned_of S.waiting S.back S.answers spawner.old)
         (spawned_of S.waiting S.back S.answers spawner.new)
         (K.given clock.old) (K.given clock.new) result }

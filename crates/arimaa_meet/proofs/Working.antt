@@ -8,15 +8,14 @@ use Rattle.std.proofs.lemmas.List.{drop_all, take_all, get_or-map, get_or_defaul
 use Rattle.std.proofs.lemmas.List.Sums.{AllPass-from_list_all}
 use Rattle.arimaa_outside.specs.Counts.{Counts}
 use Rattle.arimaa_outside.specs.declared.port_answer.PortAnswer.{PortAnswer}
-use Rattle.arimaa_time.specs.declared.control.Control.{Control}
 use Rattle.arimaa_meet.specs.declared.meet.Meet.{Meet}
 use Rattle.arimaa_meet.specs.declared.pairs.Pair.{Pair}
 use Rattle.arimaa_meet.specs.declared.match_report.Told.{Told}
 use Rattle.arimaa_meet.specs.declared.workers.Worker.{Worker}
-use Rattle.arimaa_meet.specs.Matches.{MeetMatch, outcome_of}
-use Rattle.arimaa_meet.specs.Seats.{PlaysMatches, Seat}
+use Rattle.arimaa_meet.specs.Matches.{MeetMatch}
+use Rattle.arimaa_meet.specs.Seats.{PlaysMatches, Seat, Terms}
 use Rattle.arimaa_meet.specs.Shares.{AreShares, AreTold, HasPlayedShare, HavePlayed, HavePlayedShares, IsTold, dealt_to}
-use Rattle.arimaa_meet.specs.Workers.{HasWorked}
+use Rattle.arimaa_meet.specs.Workers.{HasWorked, terms_of}
 use Rattle.arimaa_meet.proofs.Gathering.{some_of}
 
 -- the workers are numbered from 0
@@ -37,7 +36,7 @@ module _ {S K L : Type 0} (sent : L → Option (List (List ℕ))) (answers : L �
       → length new ≡ length old
       → ((k : ℕ) (d : Worker S K) → k < length old → HasWorked sent answers counts seat meet (get_or old k d) (get_or new k d))
       → ((k : ℕ) (d : Worker S K) → k < length new → (get_or new k d).finished ≡ true)
-      → HavePlayedShares sent answers counts seat meet.control meet.pairs.items
+      → HavePlayedShares sent answers counts seat (terms_of meet) meet.pairs.items
       (map (λ (w : Worker S K). w.spawner) old) (map (λ (w : Worker S K). w.spawner) new)
       (map (λ (w : Worker S K). w.clock) old) (map (λ (w : Worker S K). w.clock) new)
       (map (λ (w : Worker S K). w.told) new)
@@ -53,7 +52,7 @@ module _ {S K L : Type 0} (sent : L → Option (List (List ℕ))) (answers : L �
             let later : w < length new = omega (arith, size) in
             let own : Worker S K = get_or old w z in
             let then_own : Worker S K = get_or new w z in
-            let p : HasPlayedShare sent answers counts meet.control meet.pairs.items own.number meet.workers (seat own.spawner own.clock) (seat then_own.spawner then_own.clock) then_own.told.items =
+            let p : HasPlayedShare sent answers counts (terms_of meet) meet.pairs.items own.number meet.workers (seat own.spawner own.clock) (seat then_own.spawner then_own.clock) then_own.told.items =
             (worked w z within).told (finished w z later) in
             let seat_before : seat own.spawner own.clock ≡ seat (get_or (map spawner old) w s) (get_or (map clock old) w k) =
             ap (λ (x : S). seat x own.clock) (sym (get_or-map spawner old w z s within))
@@ -67,8 +66,8 @@ module _ {S K L : Type 0} (sent : L → Option (List (List ℕ))) (answers : L �
                   ∙ (ap (λ (n : ℕ). dealt_to n meet.workers meet.pairs.items) (numbered w z within)
                   ∙ ap (λ (n : ℕ). dealt_to w n meet.pairs.items) (workers ∙ sym old_spawners));
               telling = subst (λ (v : Vec Told Global). AllZip IsTold p.matches v.items) (sym (get_or-map told new w z d later)) p.telling;
-              plays = subst (λ (x : Seat L). PlaysMatches sent answers counts meet.control x (seat (get_or (map spawner new) w s) (get_or (map clock new) w k)) (map outcome_of p.matches)) seat_before
-                  (subst (λ (x : Seat L). PlaysMatches sent answers counts meet.control (seat own.spawner own.clock) x (map outcome_of p.matches)) seat_after p.plays);
+              plays = subst (λ (x : Seat L). PlaysMatches sent answers counts (terms_of meet) x (seat (get_or (map spawner new) w s) (get_or (map clock new) w k)) p.matches) seat_before
+                  (subst (λ (x : Seat L). PlaysMatches sent answers counts (terms_of meet) (seat own.spawner own.clock) x p.matches) seat_after p.plays);
             };
         share_count = length-map new told ∙ (size ∙ sym old_spawners);
         spawner_count = length-map new spawner ∙ (size ∙ sym old_spawners);
@@ -86,7 +85,7 @@ module _ {S K L : Type 0} (sent : L → Option (List (List ℕ))) (answers : L �
       → later_spawners ≡ between_spawners ++ map (λ (w : Worker S K). w.spawner) new
       → later_clocks ≡ between_clocks ++ map (λ (w : Worker S K). w.clock) new
       → shares ≡ none ++ map (λ (w : Worker S K). w.told) new
-      → HavePlayedShares sent answers counts seat meet.control meet.pairs.items spawners later_spawners clocks later_clocks shares
+      → HavePlayedShares sent answers counts seat (terms_of meet) meet.pairs.items spawners later_spawners clocks later_clocks shares
   all_shares meet old new spawners between_spawners later_spawners clocks between_clocks later_clocks none shares
       workers numbered size worked finished from_spawners from_clocks no_spawners no_clocks no_shares to_spawners to_clocks to_shares =
       let spawner : Worker S K → S = λ (w : Worker S K). w.spawner in
@@ -95,23 +94,23 @@ module _ {S K L : Type 0} (sent : L → Option (List (List ℕ))) (answers : L �
       let back_spawners : map spawner new ≡ later_spawners = sym (to_spawners ∙ ap (λ (l : List S). l ++ map spawner new) no_spawners) in
       let back_clocks : map clock new ≡ later_clocks = sym (to_clocks ∙ ap (λ (l : List K). l ++ map clock new) no_clocks) in
       let all_told : map told new ≡ shares = sym (to_shares ∙ ap (λ (l : List (Vec Told Global)). l ++ map told new) no_shares) in
-      subst (λ (x : List S). HavePlayedShares sent answers counts seat meet.control meet.pairs.items x later_spawners clocks later_clocks shares) from_spawners
-      (subst (λ (x : List S). HavePlayedShares sent answers counts seat meet.control meet.pairs.items (map spawner old) x clocks later_clocks shares) back_spawners
-      (subst (λ (x : List K). HavePlayedShares sent answers counts seat meet.control meet.pairs.items (map spawner old) (map spawner new) x later_clocks shares) from_clocks
-      (subst (λ (x : List K). HavePlayedShares sent answers counts seat meet.control meet.pairs.items (map spawner old) (map spawner new) (map clock old) x shares) back_clocks
-      (subst (λ (x : List (Vec Told Global)). HavePlayedShares sent answers counts seat meet.control meet.pairs.items (map spawner old) (map spawner new) (map clock old) (map clock new) x) all_told
+      subst (λ (x : List S). HavePlayedShares sent answers counts seat (terms_of meet) meet.pairs.items x later_spawners clocks later_clocks shares) from_spawners
+      (subst (λ (x : List S). HavePlayedShares sent answers counts seat (terms_of meet) meet.pairs.items (map spawner old) x clocks later_clocks shares) back_spawners
+      (subst (λ (x : List K). HavePlayedShares sent answers counts seat (terms_of meet) meet.pairs.items (map spawner old) (map spawner new) x later_clocks shares) from_clocks
+      (subst (λ (x : List K). HavePlayedShares sent answers counts seat (terms_of meet) meet.pairs.items (map spawner old) (map spawner new) (map clock old) x shares) back_clocks
+      (subst (λ (x : List (Vec Told Global)). HavePlayedShares sent answers counts seat (terms_of meet) meet.pairs.items (map spawner old) (map spawner new) (map clock old) (map clock new) x) all_told
       (played_shares meet old new (workers ∙ (ap (λ (l : List S). length l) (sym from_spawners) ∙ length-map old spawner))
       numbered size worked (AllPass-from_list_all (λ (w : Worker S K). w.finished) new finished))))))
 
-  module _ (control : Control) (pairs : List Pair) (spawners later_spawners : List S) (clocks later_clocks : List K)
+  module _ (terms : Terms) (pairs : List Pair) (spawners later_spawners : List S) (clocks later_clocks : List K)
       (shares : List (Vec Told Global)) (s : S) (k : K) (d : Vec Told Global)
-      (played : HavePlayedShares sent answers counts seat control pairs spawners later_spawners clocks later_clocks shares) where
+      (played : HavePlayedShares sent answers counts seat terms pairs spawners later_spawners clocks later_clocks shares) where
     -- these matches were played by a worker, and are told
     record IsPlayed (w : ℕ) (ms : List MeetMatch) : Type 0 where
       programs : map (λ m. m.pair) ms ≡ dealt_to w (length spawners) pairs
       telling : AllZip IsTold ms (get_or shares w d).items
-      plays : PlaysMatches sent answers counts control (seat (get_or spawners w s) (get_or clocks w k))
-          (seat (get_or later_spawners w s) (get_or later_clocks w k)) (map outcome_of ms)
+      plays : PlaysMatches sent answers counts terms (seat (get_or spawners w s) (get_or clocks w k))
+          (seat (get_or later_spawners w s) (get_or later_clocks w k)) ms
 
     chosen : (w : ℕ) → (w < length spawners) ⊎ (length spawners ≤ w) → (ms : List MeetMatch) × (w < length spawners → IsPlayed w ms)
     chosen w (inl less) =
@@ -137,7 +136,7 @@ module _ {S K L : Type 0} (sent : L → Option (List (List ℕ))) (answers : L �
 
     -- what was told of all of them, in order
     pub all_played : (told : List Told) → length clocks ≡ length spawners → AreTold pairs (length shares) of_worker told
-        → HavePlayed sent answers counts seat control pairs spawners later_spawners clocks later_clocks told
+        → HavePlayed sent answers counts seat terms pairs spawners later_spawners clocks later_clocks told
     all_played told same_length are = record {
       matches = are.matches;
       programs = are.programs;
@@ -151,29 +150,29 @@ module _ {S K L : Type 0} (sent : L → Option (List (List ℕ))) (answers : L �
           let seat_after : seat (get_or later_spawners w s) (get_or later_clocks w k) ≡ seat (get_or later_spawners w x) (get_or later_clocks w y) =
           ap (λ (z : S). seat z (get_or later_clocks w k)) (get_or_default later_spawners w s x (omega (arith, played.spawner_count)))
           ∙ ap (λ (z : K). seat (get_or later_spawners w x) z) (get_or_default later_clocks w k y (omega (arith, played.clock_count))) in
-          subst (λ (ms : List MeetMatch). PlaysMatches sent answers counts control (seat (get_or spawners w x) (get_or clocks w y)) (seat (get_or later_spawners w x) (get_or later_clocks w y)) (map outcome_of ms)) dealt
-          (subst (λ (z : Seat L). PlaysMatches sent answers counts control z (seat (get_or later_spawners w x) (get_or later_clocks w y)) (map outcome_of (of_worker w))) seat_before
-          (subst (λ (z : Seat L). PlaysMatches sent answers counts control (seat (get_or spawners w s) (get_or clocks w k)) z (map outcome_of (of_worker w))) seat_after (facts w low).plays));
+          subst (λ (ms : List MeetMatch). PlaysMatches sent answers counts terms (seat (get_or spawners w x) (get_or clocks w y)) (seat (get_or later_spawners w x) (get_or later_clocks w y)) ms) dealt
+          (subst (λ (z : Seat L). PlaysMatches sent answers counts terms z (seat (get_or later_spawners w x) (get_or later_clocks w y)) (of_worker w)) seat_before
+          (subst (λ (z : Seat L). PlaysMatches sent answers counts terms (seat (get_or spawners w s) (get_or clocks w k)) z (of_worker w)) seat_after (facts w low).plays));
     }
 
   -- the matches of each worker, which are told of in its share, and what it says that they are told
   -- of in order
-  pub all_told : (control : Control) (pairs given : List Pair) (spawners later_spawners : List S) (clocks later_clocks : List K)
+  pub all_told : (terms : Terms) (pairs given : List Pair) (spawners later_spawners : List S) (clocks later_clocks : List K)
       (shares : List (Vec Told Global)) (workers : ℕ) → 0 < length spawners → length clocks ≡ length spawners → given ≡ pairs
       → workers ≡ length shares
-      → HavePlayedShares sent answers counts seat control pairs spawners later_spawners clocks later_clocks shares
+      → HavePlayedShares sent answers counts seat terms pairs spawners later_spawners clocks later_clocks shares
       → (own : ℕ → List MeetMatch) × AreShares given own shares
       × ((told : List Told) → AreTold given workers own told
-      → HavePlayed sent answers counts seat control pairs spawners later_spawners clocks later_clocks told)
-  all_told control pairs given spawners later_spawners clocks later_clocks shares workers some same_length same counted played =
+      → HavePlayed sent answers counts seat terms pairs spawners later_spawners clocks later_clocks told)
+  all_told terms pairs given spawners later_spawners clocks later_clocks shares workers some same_length same counted played =
       let s : S = some_of spawners some in
       let k : K = some_of clocks (omega (arith, same_length)) in
       let d : Vec Told Global = some_of shares (omega (arith, played.share_count)) in
-      let own : ℕ → List MeetMatch = of_worker control pairs spawners later_spawners clocks later_clocks shares s k d played in (
+      let own : ℕ → List MeetMatch = of_worker terms pairs spawners later_spawners clocks later_clocks shares s k d played in (
         own,
         subst (λ (ps : List Pair). AreShares ps own shares) (sym same)
-            (are_shares control pairs spawners later_spawners clocks later_clocks shares s k d played),
-        λ told are. all_played control pairs spawners later_spawners clocks later_clocks shares s k d played told same_length
+            (are_shares terms pairs spawners later_spawners clocks later_clocks shares s k d played),
+        λ told are. all_played terms pairs spawners later_spawners clocks later_clocks shares s k d played told same_length
             (subst (λ (ps : List Pair). AreTold ps (length shares) own told) same
             (subst (λ (n : ℕ). AreTold given n own told) counted are)),
       )

@@ -14,15 +14,16 @@ use Rattle.arimaa_outside.specs.Writing.{EndsWith}
 
 module _ {S K L : Type 0} (sent : L → Option (List (List ℕ)))
     (answers : L → Option (List PortAnswer)) (counts : L → Counts) (seat : S → K → Seat L)
-    (asked : Asked)
+    (words : List (List ℕ)) (asked : Asked)
     (spawners later_spawners : List S) (clocks later_clocks : List K) where
   -- a meet was played, and this is its report
   pub record IsReport (text : List ℕ) : Type 0 where
-    -- the matches, in order: what came of those of each worker is what the fold over the answers
-    -- and the moments of its own spawner and clock gives
+    -- the matches, in order, each between the programs of its pair: what came of those of each
+    -- worker is what the fold over the answers and the moments of its own spawner and clock gives
     pub matches : List MeetMatch
-    pub plays : PlayDealt sent answers counts seat asked.control spawners later_spawners clocks
-        later_clocks matches
+    pub plays : PlayDealt sent answers counts seat
+        (record { words = words; control = asked.control })
+        spawners later_spawners clocks later_clocks matches
     -- each program plays each other one
     pub pairs : map (λ m. m.pair) matches ≡ pairs_of asked.programs
     -- the judge says so of their records

@@ -5,13 +5,12 @@ use Rattle.std.specs.List.{AllZip}
 use Rattle.std.specs.declared.alloc.Global.{Global}
 use Rattle.arimaa_outside.specs.Counts.{Counts}
 use Rattle.arimaa_outside.specs.declared.port_answer.PortAnswer.{PortAnswer}
-use Rattle.arimaa_time.specs.declared.control.Control.{Control}
 use Rattle.arimaa_match.specs.Texts.{text_of_match}
 use Rattle.arimaa_meet.specs.declared.pairs.Pair.{Pair}
 use Rattle.arimaa_meet.specs.declared.match_report.Told.{Told}
-use Rattle.arimaa_meet.specs.Matches.{IsJudgedMatch, MeetMatch, outcome_of}
+use Rattle.arimaa_meet.specs.Matches.{IsJudgedMatch, MeetMatch}
 use Rattle.arimaa_meet.specs.Scores.{counted}
-use Rattle.arimaa_meet.specs.Seats.{PlaysMatch, PlaysMatches, Seat}
+use Rattle.arimaa_meet.specs.Seats.{PlaysMatch, PlaysMatches, Seat, Terms}
 
 -- this is told of a match: its text and what it counts, and the judge says so of its record
 pub record IsTold (m : MeetMatch) (told : Told) : Type 0 where
@@ -52,29 +51,29 @@ pub record AreTold (pairs : List Pair) (workers : ℕ) (of_worker : ℕ → List
 module _ {L : Type 0} (sent : L → Option (List (List ℕ))) (answers : L → Option (List PortAnswer))
     (counts : L → Counts) where
   -- a match of these programs was played, and this is told of it
-  pub record HasPlayedPair (control : Control) (pair : Pair) (old new : Seat L) (told : Told)
+  pub record HasPlayedPair (terms : Terms) (pair : Pair) (old new : Seat L) (told : Told)
       : Type 0 where
     pub the_match : MeetMatch
     pub programs : the_match.pair ≡ pair
-    pub plays : PlaysMatch sent answers counts control old new (outcome_of the_match)
+    pub plays : PlaysMatch sent answers counts terms old new the_match
     pub telling : IsTold the_match told
 
   -- the matches of these programs that are dealt to a worker were played, and this is told of them
-  pub record HasPlayedShare (control : Control) (pairs : List Pair) (worker workers : ℕ)
+  pub record HasPlayedShare (terms : Terms) (pairs : List Pair) (worker workers : ℕ)
       (old new : Seat L) (told : List Told) : Type 0 where
     pub matches : List MeetMatch
     pub programs : map (λ m. m.pair) matches ≡ dealt_to worker workers pairs
     pub telling : AllZip IsTold matches told
-    pub plays : PlaysMatches sent answers counts control old new (map outcome_of matches)
+    pub plays : PlaysMatches sent answers counts terms old new matches
 
   module _ {S K : Type 0} (seat : S → K → Seat L) where
     -- each worker played the matches that are dealt to it, over its own spawner and clock, and this
     -- is told of them
-    pub record HavePlayedShares (control : Control) (pairs : List Pair)
+    pub record HavePlayedShares (terms : Terms) (pairs : List Pair)
         (spawners later_spawners : List S) (clocks later_clocks : List K)
         (shares : List (Vec Told Global)) : Type 0 where
       pub each : (w : ℕ) (s : S) (k : K) (d : Vec Told Global) → w < length spawners
-          → HasPlayedShare control pairs w (length spawners)
+          → HasPlayedShare terms pairs w (length spawners)
           (seat (slice_index_or spawners w s) (slice_index_or clocks w k))
           (seat (slice_index_or later_spawners w s) (slice_index_or later_clocks w k))
           (slice_index_or shares w d).items
@@ -83,18 +82,18 @@ module _ {L : Type 0} (sent : L → Option (List (List ℕ))) (answers : L → O
       pub clock_count : length later_clocks ≡ length spawners
 
     -- each worker played the matches that are dealt to it, over its own spawner and clock
-    abbrev pub PlayDealt : Control → List S → List S → List K → List K → List MeetMatch → Type 0
-    PlayDealt control spawners later_spawners clocks later_clocks matches =
+    abbrev pub PlayDealt : Terms → List S → List S → List K → List K → List MeetMatch → Type 0
+    PlayDealt terms spawners later_spawners clocks later_clocks matches =
         (w : ℕ) (s : S) (k : K) → w < length spawners
-        → PlaysMatches sent answers counts control
+        → PlaysMatches sent answers counts terms
         (seat (slice_index_or spawners w s) (slice_index_or clocks w k))
         (seat (slice_index_or later_spawners w s) (slice_index_or later_clocks w k))
-        (map outcome_of (dealt_to w (length spawners) matches))
+        (dealt_to w (length spawners) matches)
 
     -- matches of these programs were played so, and this is told of them
-    pub record HavePlayed (control : Control) (pairs : List Pair) (spawners later_spawners : List S)
+    pub record HavePlayed (terms : Terms) (pairs : List Pair) (spawners later_spawners : List S)
         (clocks later_clocks : List K) (told : List Told) : Type 0 where
       pub matches : List MeetMatch
       pub programs : map (λ m. m.pair) matches ≡ pairs
       pub telling : AllZip IsTold matches told
-      pub plays : PlayDealt control spawners later_spawners clocks later_clocks matches
+      pub plays : PlayDealt terms spawners later_spawners clocks later_clocks matches

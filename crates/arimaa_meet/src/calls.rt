@@ -8,6 +8,7 @@ ghost use Rattle.arimaa_meet.specs.Meets.{IsReport, MeetPlayed};
 ghost use Rattle.arimaa_meet.specs.Seats.{seat_of};
 ghost use Rattle.arimaa_meet.specs.Shares.{HavePlayed};
 ghost use Rattle.arimaa_meet.specs.Words.{AsksForMeet, AsksForNoMeet};
+ghost use Rattle.arimaa_meet.specs.Workers.{terms_of};
 ghost use Rattle.arimaa_outside.specs.Writing.{EndsWith, Outputs};
 
 use crate::gather::gather;
@@ -33,7 +34,7 @@ fn play_all<R: Threads + Sync, S: Spawner<Link: Send> + Send + Drop, K: Clock + 
     requires clocks { vec_len clocks.old ≡ vec_len spawners.old }
     requires workers { meet.now.workers ≡ vec_len spawners.old }
     ensures { IfOk result (λ told. HavePlayed S.Link.sent S.Link.answers S.Link.counts
-        (seat_of S.waiting S.back S.answers S.counts K.given) meet.now.control
+        (seat_of S.waiting S.back S.answers S.counts K.given) (terms_of meet.now)
         meet.now.pairs.items spawners.old.items spawners.new.items clocks.old.items
         clocks.new.items told.items) }
 {
@@ -54,8 +55,8 @@ fn play_meet<R: Threads + Sync, S: Spawner<Link: Send> + Send + Drop, K: Clock +
     requires some { 0 < vec_len spawners.old }
     requires clocks { vec_len clocks.old ≡ vec_len spawners.old }
     ensures { IfOk result (λ text. IsReport S.Link.sent S.Link.answers S.Link.counts
-        (seat_of S.waiting S.back S.answers S.counts K.given) asked.now spawners.old.items
-        spawners.new.items clocks.old.items clocks.new.items text.items) }
+        (seat_of S.waiting S.back S.answers S.counts K.given) words.now asked.now
+        spawners.old.items spawners.new.items clocks.old.items clocks.new.items text.items) }
 {
     let meet = Meet {
         words,
@@ -98,7 +99,7 @@ pub fn run_meet<
     requires clocks { vec_len clocks.old ≡ vec_len spawners.old }
     ensures played { (asked : Wish) → AsksForMeet words.now asked
         → MeetPlayed S.Link.sent S.Link.answers S.Link.counts
-        (seat_of S.waiting S.back S.answers S.counts K.given) asked
+        (seat_of S.waiting S.back S.answers S.counts K.given) words.now asked
         spawners.old.items spawners.new.items clocks.old.items clocks.new.items
         result (O.contents output.old) (O.contents output.new) }
     ensures bad_words { AsksForNoMeet words.now → EndsWith result (O.contents output.old)

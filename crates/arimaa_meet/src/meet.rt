@@ -1,7 +1,9 @@
 //! The matches of a meet.
-ghost use Rattle.std.specs.Prelude.{◌<◌, IfOk};
+ghost use Rattle.std.specs.Prelude.{◌≡◌, ◌<◌, IfOk};
+ghost use Rattle.arimaa_meet.specs.Pairs.{program_word};
 ghost use Rattle.arimaa_meet.specs.Seats.{seat_of};
 ghost use Rattle.arimaa_meet.specs.Shares.{HasPlayedPair, HasPlayedShare};
+ghost use Rattle.arimaa_meet.specs.Workers.{terms_of};
 
 use crate::match_count::Counted;
 use crate::match_report::Told;
@@ -25,8 +27,13 @@ pub(crate) struct Meet<'a> {
 }
 
 // The program of this number.
-fn program(words: &CommandWords, number: usize) -> &str {
-    words.get(number).unwrap_or("")
+fn program(words: &CommandWords, number: usize) -> &str
+    ensures { result.now ≡ program_word words.now number }
+{
+    match words.get(number) {
+        Some(word) => word,
+        None => "",
+    }
 }
 
 // Plays a match.
@@ -38,7 +45,7 @@ fn play_pair<S: Spawner, K: Clock>(
     clock: &mut K,
 ) -> Result<Told, AllocError>
     ensures { IfOk result
-        (HasPlayedPair S.Link.sent S.Link.answers S.Link.counts meet.now.control pair
+        (HasPlayedPair S.Link.sent S.Link.answers S.Link.counts (terms_of meet.now) pair
         (seat_of S.waiting S.back S.answers S.counts K.given spawner.old clock.old)
         (seat_of S.waiting S.back S.answers S.counts K.given spawner.new clock.new)) }
 {
@@ -67,7 +74,7 @@ pub(crate) fn play_share<S: Spawner, K: Clock>(
 ) -> Result<Vec<Told>, AllocError>
     requires some { 0 < meet.now.workers }
     ensures { IfOk result (λ told. HasPlayedShare S.Link.sent S.Link.answers S.Link.counts
-        meet.now.control meet.now.pairs.items worker meet.now.workers
+        (terms_of meet.now) meet.now.pairs.items worker meet.now.workers
         (seat_of S.waiting S.back S.answers S.counts K.given spawner.old clock.old)
         (seat_of S.waiting S.back S.answers S.counts K.given spawner.new clock.new)
         told.items) }

@@ -3,7 +3,7 @@ ghost use Rattle.std.specs.Prelude.{◌≡◌, ◌+◌, ◌<◌, ◌≤◌, ◌+
 ghost use Rattle.std.specs.List.{list_all};
 ghost use Rattle.arimaa_meet.specs.Seats.{seat_of};
 ghost use Rattle.arimaa_meet.specs.Shares.{HavePlayedShares};
-ghost use Rattle.arimaa_meet.specs.Workers.{HasWorked};
+ghost use Rattle.arimaa_meet.specs.Workers.{HasWorked, terms_of};
 
 use crate::match_report::Told;
 use crate::meet::{Meet, play_share};
@@ -164,7 +164,7 @@ pub(crate) fn play_shares<
     requires clocks { vec_len clocks.old ≡ vec_len spawners.old }
     requires workers { meet.now.workers ≡ vec_len spawners.old }
     ensures { IfOk result (λ shares. HavePlayedShares S.Link.sent S.Link.answers S.Link.counts
-        (seat_of S.waiting S.back S.answers S.counts K.given) meet.now.control
+        (seat_of S.waiting S.back S.answers S.counts K.given) (terms_of meet.now)
         meet.now.pairs.items spawners.old.items spawners.new.items clocks.old.items
         clocks.new.items shares.items) }
 {

@@ -25,18 +25,18 @@ spawner_counts spawner = record
 abbrev pub IsFresh : Talking → Type 0
 IsFresh port = port_counts port ≡ no_counts
 
--- the spawner once it handed out its next port
-abbrev pub after_opening : Spawning → Spawning
-after_opening spawner = record spawner {
+-- the spawner once it handed out its next port for this program
+abbrev pub after_opening : Spawning → List ℕ → Spawning
+after_opening spawner program = record spawner {
   waiting = drop 1 spawner.waiting;
-  answers = spawner.answers ++ Opened ∷ [];
+  answers = spawner.answers ++ Opened program ∷ [];
   calls = after_success spawner.calls;
 }
 
--- the spawner once a call of `open` has failed
-abbrev pub after_refusing : Spawning → Spawning
-after_refusing spawner = record spawner
-    { answers = spawner.answers ++ Failed ∷ []; calls = after_fault spawner.calls }
+-- the spawner once a call of `open` for this program has failed
+abbrev pub after_refusing : Spawning → List ℕ → Spawning
+after_refusing spawner program = record spawner
+    { answers = spawner.answers ++ Failed program ∷ []; calls = after_fault spawner.calls }
 
 -- the spawner once it took this port back
 abbrev pub after_closing : Spawning → Talking → Spawning

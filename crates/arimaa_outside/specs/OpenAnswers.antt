@@ -5,20 +5,21 @@ use Rattle.arimaa_outside.specs.declared.open_answer.OpenAnswer.TheVariants.{Ope
 use Rattle.arimaa_outside.specs.declared.port_fault.PortFault.{PortFault}
 use Rattle.arimaa_outside.specs.declared.port_fault.PortFault.TheVariants as fault
 
--- what a call of `open` that was refused answered: want of memory is no answer
-abbrev pub refused_open : PortFault → List OpenAnswer
-refused_open fault.Failed = Failed ∷ []
-refused_open fault.Memory = []
+-- what a call of `open` that was refused answered, which named this program: want of memory is no
+-- answer
+abbrev pub refused_open : List ℕ → PortFault → List OpenAnswer
+refused_open program fault.Failed = Failed program ∷ []
+refused_open program fault.Memory = []
 
--- what a call of `open` answered
-abbrev pub open_answer : {T : Type 0} → Result T PortFault → List OpenAnswer
-open_answer (Ok _) = Opened ∷ []
-open_answer (Err refusal) = refused_open refusal
+-- what a call of `open` answered that named this program
+abbrev pub open_answer : {T : Type 0} → List ℕ → Result T PortFault → List OpenAnswer
+open_answer program (Ok _) = Opened program ∷ []
+open_answer program (Err refusal) = refused_open program refusal
 
 -- Whether a call handed out a link.
 abbrev pub is_opened : OpenAnswer → Bool
-is_opened Opened = true
-is_opened Failed = false
+is_opened (Opened program) = true
+is_opened (Failed program) = false
 
 -- How many links were handed out.
 abbrev pub opened_count : List OpenAnswer → ℕ

@@ -8,6 +8,7 @@ ghost use Rattle.arimaa_outside.specs.MemPort.{port_counts};
 ghost use Rattle.arimaa_outside.specs.MemSpawner.{IsFresh, after_closing, after_opening, after_refusing, spawner_counts};
 ghost use Rattle.arimaa_outside.specs.OpenAnswers.{open_answer, opened_count};
 
+use crate::bytes::Bytes;
 use crate::calls::Calls;
 use crate::failure::Failed;
 use crate::lists::put;
@@ -20,10 +21,11 @@ use std::marker::Model;
 use std::vec::IntoIter;
 
 /// A spawner that hands out these ports in order, whatever the program, and keeps those that it
-/// takes back. It tells both. A call of `open` fails where it is one that is to fail, and where no
+/// takes back. It tells both, and for which programs it was asked. A call of `open` fails where it is one that is to fail, and where no
 /// port is left.
 #[derive(Drop)]
 pub struct MemSpawner {
+    alloc: Global,
     waiting: IntoIter<MemPort>,
     back: Vec<MemPort>,
     answers: Vec<OpenAnswer>,
@@ -77,6 +79,7 @@ impl MemSpawner {
     {
         let back = Vec::with_capacity(alloc, ports.len())?;
         Ok(MemSpawner {
+            alloc,
             waiting: ports.into_iter(),
             back,
             answers: Vec::new(alloc),
@@ -98,19 +101,21 @@ impl Spawner for MemSpawner {
 
     ghost counts = { spawner_counts };
 
-    fn open(&mut self, _program: &str) -> Result<MemPort, PortFault>
+    fn open(&mut self, program: &str) -> Result<MemPort, PortFault>
         ensures fails { NextFails self.old.calls → IsErr result }
         ensures at_end { self.old.waiting ≡ [] → IsErr result }
-        ensures ok { OnOk result (self.new ≡ after_opening self.old) }
+        ensures ok { OnOk result (self.new ≡ after_opening self.old program.now) }
         ensures memory { IsErrOf result PortFault.Memory → self.new ≡ self.old }
         ensures only_then { IsErrOf result PortFault.Failed
             → NextFails self.old.calls ⊎ (self.old.waiting ≡ []) }
-        ensures fault { IsErrOf result PortFault.Failed → self.new ≡ after_refusing self.old }
+        ensures fault { IsErrOf result PortFault.Failed
+            → self.new ≡ after_refusing self.old program.now }
 
         ensures link { IfOk result (λ link. self.old.waiting ≡ link ∷ self.new.waiting) }
         ensures fresh { IfOk result (λ link. port_counts link ≡ no_counts) }
         ensures kept { OnErr result (self.new.waiting ≡ self.old.waiting) }
-        ensures answer { self.new.answers ≡ self.old.answers ++ open_answer result }
+        ensures answer { self.new.answers
+            ≡ self.old.answers ++ open_answer program.now result }
         ensures back { self.new.back ≡ self.old.back }
         ensures balance { length self.old.back ≤ opened_count self.old.answers }
         ensures sound { ¬ IsErrOf result PortFault.Failed
@@ -119,14 +124,15 @@ impl Spawner for MemSpawner {
             → HasRisen self.old.calls.faults self.new.calls.faults }
         ensures never_falls { NeverFall (spawner_counts self.old) (spawner_counts self.new) }
     {
+        let program = Bytes::copied(self.alloc, program.as_bytes())?;
         self.answers.reserve(1)?;
         match next_port(&mut self.waiting, &mut self.calls) {
             Ok(port) => {
-                put(&mut self.answers, OpenAnswer::Opened);
+                put(&mut self.answers, OpenAnswer::Opened(program));
                 Ok(port)
             }
             Err(_) => {
-                put(&mut self.answers, OpenAnswer::Failed);
+                put(&mut self.answers, OpenAnswer::Failed(program));
                 Err(PortFault::Failed)
             }
         }

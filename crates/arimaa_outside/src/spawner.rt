@@ -20,8 +20,8 @@ pub trait Spawner {
     /// The links that it took back, in order, or `None` where the spawner doesn't tell.
     ghost back: { Self → Option (List Self.Link) };
 
-    /// What it answered to each call of `open` so far, in order, or `None` where the spawner
-    /// doesn't tell.
+    /// What it answered to each call of `open` so far and for which program, in order, or `None`
+    /// where the spawner doesn't tell.
     ghost answers: { Self → Option (List OpenAnswer) };
 
     /// The counts of the links that it took back, together, and how many calls of `open` have
@@ -39,7 +39,8 @@ pub trait Spawner {
             (λ link. waiting self.old ≡ told_before (link ∷ []) (waiting self.new)) }
         ensures fresh { IfOk result (λ link. Self.Link.counts link ≡ no_counts) }
         ensures kept { OnErr result (waiting self.new ≡ waiting self.old) }
-        ensures answer { answers self.new ≡ told_after (answers self.old) (open_answer result) }
+        ensures answer { answers self.new
+            ≡ told_after (answers self.old) (open_answer program.now result) }
         ensures back { back self.new ≡ back self.old }
 
         // A spawner never took back more links than it handed out.

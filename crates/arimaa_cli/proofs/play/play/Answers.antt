@@ -15,7 +15,7 @@ returns-clause-played g c =
     let status = status_end c.write_answer.result (status_at c.in-Ok.done.ending) before after (text_of_match c.in-Ok.done) told in
     record {
       outcome = Ok c.in-Ok.done;
-      went = c.in-Ok.ensures.went;
+      went = rw (← c.as_str-gold.ensures, ← c.as_str-silver.ensures) c.in-Ok.ensures.went;
       told = inl told;
       lawful = λ _. c.in-Ok-match_text.ensures.lawful c.in-Ok.ensures.written;
       engine_fault = cause_of c.in-Ok.done.ending c.write_answer.result _ _ c.in-Ok.ensures.cause status;

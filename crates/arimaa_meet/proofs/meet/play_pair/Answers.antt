@@ -9,7 +9,10 @@ returns g c =
     record {
       the_match = judged_match c.args.pair c.in-Ok.done s;
       programs = refl;
-      plays = record { went = c.in-Ok.ensures.went; cause = c.in-Ok.ensures.cause };
+      plays = record {
+        went = rw (← c.program-gold.ensures, ← c.program-silver.ensures) c.in-Ok.ensures.went;
+        cause = c.in-Ok.ensures.cause;
+      };
       telling = record {
         text = c.in-Ok-match_text.ensures.text;
         counted_so = c.of.ensures ∙ counted_is c.args.pair c.in-Ok.done s;
