@@ -20,9 +20,9 @@ use Rattle.arimaa_board.specs.Setup.{Lineup, IsLineup, army, pieces_in}
 use Rattle.arimaa_board.specs.Text.{places_of, reading_of, text_of}
 use Rattle.arimaa_board.proofs.Lemmas.TextLaws.{piece_of_letter-letter_of_content}
 use Rattle.arimaa_notation.specs.Grammar.{IsSetupText, IsTurnText}
-use Rattle.arimaa_notation.specs.Items.{items_of, trimmed, word_of}
+use Rattle.arimaa_notation.specs.Items.{items_of, without_outer_blanks, word_of}
 use Rattle.arimaa_notation.specs.Readers.{setup_of_text}
-use Rattle.arimaa_notation.specs.Written.{items_of_entries, joined, text_of_entry, text_of_setup, text_of_step, text_of_turn}
+use Rattle.arimaa_notation.specs.Written.{items_of_entries, items_text, text_of_entry, text_of_setup, text_of_step, text_of_turn}
 use Rattle.arimaa_notation.proofs.Lemmas.ItemLaws.{items-blank}
 use Rattle.arimaa_notation.proofs.Lemmas.Numbers.{number_back}
 use Rattle.arimaa_notation.proofs.Lemmas.Reading.{turn_back}
@@ -75,7 +75,7 @@ pub setup_told_back : (s : Lineup) → IsLineup s → IsSetupText (text_of_setup
 setup_told_back s rule h = setup_of_pairs s.color s.pairs (size-lineup s rule) rule h
 
 -- a position is set, and read back
-board_trimmed : (b : Board) → trimmed (32 ∷ text_of b) ≡ text_of b
+board_trimmed : (b : Board) → without_outer_blanks (32 ∷ text_of b) ≡ text_of b
 board_trimmed b = trimmed-blank 32 (text_of b) refl ∙ trimmed-solid 91 93 (places_of b) refl refl
 
 position_of_side : (side : Color) (b : Board) → reading_of (text_of b) ≡ Ok b → command_of (text_of_command (command.SetPosition (record { board = b; side = side }))) ≡ Ok (command.SetPosition (record { board = b; side = side }))
@@ -126,7 +126,7 @@ option_set_back o n small =
     let tail : (name_of o ++ codes " value ") ++ decimal n ≡ name_of o ++ (codes " value " ++ (decimal n ++ [])) =
     append_assoc (name_of o) (codes " value ") (decimal n) ∙ ap (λ d. name_of o ++ (codes " value " ++ d)) (sym (append-nil (decimal n))) in
     let said : items_of (codes " name " ++ ((name_of o ++ codes " value ") ++ decimal n)) ≡ items =
-    ap (λ x. items_of (codes " name " ++ x)) tail ∙ (items-blank 32 (joined items) refl ∙ items-joined items words) in
+    ap (λ x. items_of (codes " name " ++ x)) tail ∙ (items-blank 32 (items_text items) refl ∙ items-joined items words) in
     ap option_said said ∙ (ap (λ r. option_named r (codes "value" ∷ decimal n ∷ [])) (name_back o) ∙ ap (option_of_parts o) (number_back n small))
 
 -- a line that a call wrote is read back where its text is

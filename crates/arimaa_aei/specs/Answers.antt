@@ -1,6 +1,6 @@
 -- What the lines of an engine say.
 use Rattle.std.specs.Prelude.{ℕ, List, [], ◌∷◌, Option, None, Some}
-use Rattle.arimaa_notation.specs.Items.{after_word, trimmed, word_of}
+use Rattle.arimaa_notation.specs.Items.{after_word, without_outer_blanks, word_of}
 use Rattle.arimaa_aei.specs.declared.answer.Answer.{Answer}
 use Rattle.arimaa_aei.specs.declared.answer.Answer.TheVariants as answer
 use Rattle.arimaa_aei.specs.declared.words.AnswerWord.{AnswerWord}
@@ -35,8 +35,9 @@ said_by (Some word.Log) text = Log text
 said_by None text = Other
 
 -- what an engine's line says: its first word decides, and the text has no blanks at its ends
-unfoldable pub spoken : List ℕ → Spoken
-spoken line = said_by (answer_word_of (word_of line)) (trimmed (after_word line))
+unfoldable pub speech_of_line : List ℕ → Spoken
+speech_of_line line = said_by (answer_word_of (word_of line))
+    (without_outer_blanks (after_word line))
 
 -- what an answer of the reader stands for
 abbrev pub spoken_of : Answer → Spoken

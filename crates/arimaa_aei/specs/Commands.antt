@@ -10,7 +10,7 @@ use Rattle.arimaa_board.specs.declared.turn.NotedStep.{NotedStep}
 use Rattle.arimaa_board.specs.Piece.{piece_of_letter}
 use Rattle.arimaa_board.specs.Setup.{Lineup}
 use Rattle.arimaa_board.specs.Text.{reading_of}
-use Rattle.arimaa_notation.specs.Items.{after_word, items_of, trimmed, word_of}
+use Rattle.arimaa_notation.specs.Items.{after_word, items_of, without_outer_blanks, word_of}
 use Rattle.arimaa_notation.specs.Readers.{number_of_text, setup_of_text, turn_of_text}
 use Rattle.arimaa_aei.specs.declared.command.Command.{Command}
 use Rattle.arimaa_aei.specs.declared.command.Command.TheVariants as command
@@ -47,7 +47,7 @@ position_of_parts _ _ = Err Argument
 -- what `setposition` sets: a side, and then a board's text
 abbrev pub position_said : List ℕ → Result Command CommandFault
 position_said rest =
-    position_of_parts (side_of (word_of rest)) (reading_of (trimmed (after_word rest)))
+    position_of_parts (side_of (word_of rest)) (reading_of (without_outer_blanks (after_word rest)))
 
 -- an option with its value, where both are read
 abbrev pub option_of_parts : OptionName → Option ℕ → Result Command CommandFault

@@ -5,7 +5,7 @@ use Rattle.arimaa_board.specs.declared.piece.Color.{Color}
 use Rattle.arimaa_board.specs.declared.piece.Color.TheVariants.{Gold, Silver}
 use Rattle.arimaa_board.specs.Fit.{IsFit}
 use Rattle.arimaa_board.specs.Text.{text_of}
-use Rattle.arimaa_notation.specs.Items.{trimmed}
+use Rattle.arimaa_notation.specs.Items.{without_outer_blanks}
 use Rattle.arimaa_notation.specs.Written.{text_of_setup, text_of_turn}
 use Rattle.arimaa_aei.specs.declared.command.Command.{Command}
 use Rattle.arimaa_aei.specs.declared.command.Command.TheVariants as command
@@ -56,9 +56,9 @@ text_of_spoken Other = []
 
 -- the text that an answer carries has no blank at its ends
 abbrev pub IsTrimmed : Spoken → Type 0
-IsTrimmed (Version text) = trimmed text ≡ text
-IsTrimmed (Id text) = trimmed text ≡ text
-IsTrimmed (BestMove text) = trimmed text ≡ text
-IsTrimmed (Info text) = trimmed text ≡ text
-IsTrimmed (Log text) = trimmed text ≡ text
+IsTrimmed (Version text) = without_outer_blanks text ≡ text
+IsTrimmed (Id text) = without_outer_blanks text ≡ text
+IsTrimmed (BestMove text) = without_outer_blanks text ≡ text
+IsTrimmed (Info text) = without_outer_blanks text ≡ text
+IsTrimmed (Log text) = without_outer_blanks text ≡ text
 IsTrimmed _ = Unit {0}

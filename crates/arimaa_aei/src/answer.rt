@@ -1,6 +1,6 @@
 //! What an engine says.
 ghost use Rattle.std.specs.Prelude.{◌≡◌};
-ghost use Rattle.arimaa_aei.specs.Answers.{alone, said_by, spoken, spoken_of};
+ghost use Rattle.arimaa_aei.specs.Answers.{alone, said_by, speech_of_line, spoken_of};
 
 use crate::words::{AnswerWord, read_answer_word};
 use arimaa_notation::{first_item, trim};
@@ -29,9 +29,9 @@ pub enum Answer<'a> {
 /// What an engine's line says, without its line end. The first item decides; `aeiok` and `readyok`
 /// stand alone, and after the other words the rest of the line is the text. Every other line, the
 /// empty one too, is `Other`.
-#[tactic(auto, unfolding(crate::specs::Answers::spoken))]
+#[tactic(auto, unfolding(crate::specs::Answers::speech_of_line))]
 pub fn read_answer(line: &[u8]) -> Answer<'_>
-    ensures { spoken_of result ≡ spoken line.now }
+    ensures { spoken_of result ≡ speech_of_line line.now }
 {
     let Some((word, rest)) = first_item(line) else {
         return Answer::Other;

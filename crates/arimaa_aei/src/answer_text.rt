@@ -1,6 +1,6 @@
 //! The written form of an engine's lines.
 ghost use Rattle.std.specs.Prelude.{◌≡◌, ◌≢◌, IfOk};
-ghost use Rattle.arimaa_aei.specs.Answers.{Other, spoken, spoken_of};
+ghost use Rattle.arimaa_aei.specs.Answers.{Other, speech_of_line, spoken_of};
 ghost use Rattle.arimaa_aei.specs.Words.{text_of_answer_word};
 ghost use Rattle.arimaa_aei.specs.Written.{IsTrimmed, text_of_spoken, with_text};
 
@@ -15,7 +15,7 @@ pub fn answer_bytes(alloc: Global, answer: &Answer) -> Result<Vec<u8>, AllocErro
     requires { spoken_of answer.now ≢ Other }
     ensures text { IfOk result (λ line. line.items ≡ text_of_spoken (spoken_of answer.now)) }
     ensures reads_back { IfOk result (λ line. IsTrimmed (spoken_of answer.now)
-        → spoken line.items ≡ spoken_of answer.now) }
+        → speech_of_line line.items ≡ spoken_of answer.now) }
 {
     let (word, text) = parts(answer);
     word_with_text(alloc, answer_word_text(word), text)

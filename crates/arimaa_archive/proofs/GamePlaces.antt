@@ -7,7 +7,7 @@ use Rattle.std.proofs.lemmas.List.{get_or-drop, get_or-take}
 use Rattle.std.proofs.lemmas.List.Sums.{fails_before_first, position_or_len_is}
 use Rattle.std.proofs.lemmas.Slice.Eq.{bytes_eq-Decides}
 use Rattle.memchr.specs.Find.{OccursAt}
-use Rattle.arimaa_notation.specs.Items.{is_blank, trimmed, without_first_blanks}
+use Rattle.arimaa_notation.specs.Items.{is_blank, without_outer_blanks, without_first_blanks}
 use Rattle.arimaa_record.specs.Lines.{is_feed, lines_of}
 use Rattle.arimaa_archive.specs.Archive.{IsLineStart, is_game_line, lines_before_game, records_of}
 use Rattle.arimaa_archive.proofs.RecordPlaces.{first_line_start, next_line_start}
@@ -73,7 +73,7 @@ word_in line is =
     let rest : List ℕ = without_first_blanks line in (
       prefix_len is_blank line,
       cut_occurs line (codes "game") (prefix_len is_blank line) (length rest - suffix_len is_blank rest)
-          ((bytes_eq-Decides (trimmed line) (codes "game")).0 is) (omega arith),
+          ((bytes_eq-Decides (without_outer_blanks line) (codes "game")).0 is) (omega arith),
     )
 
 -- a line without its carriage return is a front of it

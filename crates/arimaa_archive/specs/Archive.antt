@@ -1,13 +1,13 @@
 -- An archive: records, each after a line that says `game`.
 use Rattle.std.specs.Prelude.{◌≡◌, ◌≤◌, ℕ, ◌+◌, ◌==◌, Bool, false, not, List, [], ◌∷◌, ◌++◌, Option, None, Some, codes, drop, length, slice_range, take, if◌then◌else◌}
 use Rattle.std.specs.Str.{bytes_eq}
-use Rattle.arimaa_notation.specs.Items.{trimmed, word_of}
+use Rattle.arimaa_notation.specs.Items.{without_outer_blanks, word_of}
 use Rattle.arimaa_record.specs.Lines.{lines_of}
 use Rattle.arimaa_archive.specs.declared.parts.Part.{Part}
 
 -- a line that begins a record: without the blanks at its ends it is `game`
 abbrev pub is_game_line : List ℕ → Bool
-is_game_line line = bytes_eq (trimmed line) (codes "game")
+is_game_line line = bytes_eq (without_outer_blanks line) (codes "game")
 
 -- an item that begins no comment; a line without items has no first one
 abbrev pub says_something : List ℕ → Bool

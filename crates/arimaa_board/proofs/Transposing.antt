@@ -6,7 +6,7 @@ use Rattle.std.proofs.lemmas.Nat.{and_le_r, xor_lt}
 use Rattle.std.proofs.lemmas.Nat.Bits.{bit_at_and, bit_at_xor, bit_at_above, bit_at-lt}
 use Rattle.std.proofs.lemmas.Bool.{cases_eq, cases_lt, and_parts}
 use Rattle.std.proofs.lemmas.Bool.Decides.{nat_tests}
-use Rattle.arimaa_board.specs.Transpose.{bit_in, low_source, high_source, swap_source, exchanged}
+use Rattle.arimaa_board.specs.Transpose.{bit_in, low_source, high_source, swap_source, with_bits_exchanged}
 use Rattle.arimaa_board.proofs.Lemmas.Beside.{bit_at-up, bit_at-up_low, bit_at-down, upto, upto_all}
 
 -- a bit, and another one where the mask has it
@@ -142,10 +142,10 @@ chained a b c d first second third target h1 h2 h3 all n small =
 
 -- where a bit comes from by the levels of neighbours, and by those of words two apart
 abbrev pub near_source : ℕ → ℕ
-near_source n = exchanged 6 0 (exchanged 6 2 (exchanged 6 4 n))
+near_source n = with_bits_exchanged 6 0 (with_bits_exchanged 6 2 (with_bits_exchanged 6 4 n))
 
 abbrev pub far_source : ℕ → ℕ
-far_source n = exchanged 6 1 (exchanged 6 3 (exchanged 6 5 n))
+far_source n = with_bits_exchanged 6 1 (with_bits_exchanged 6 3 (with_bits_exchanged 6 5 n))
 
 pub near_all : upto (is_chain (swap_source 1 6148914691236517205) (swap_source 4 1085102592571150095) (swap_source 16 281470681808895) near_source) 128 ≡ true
 near_all = refl

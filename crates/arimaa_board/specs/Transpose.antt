@@ -21,6 +21,6 @@ swap_source shift mask n =
     if nat_lt n 64 then low_source shift mask n else high_source shift mask (n - 64)
 
 -- the number in which bits p and q are exchanged
-abbrev pub exchanged : ℕ → ℕ → ℕ → ℕ
-exchanged p q n =
+abbrev pub with_bits_exchanged : ℕ → ℕ → ℕ → ℕ
+with_bits_exchanged p q n =
     n - bit_at n p * 2 ^ p - bit_at n q * 2 ^ q + bit_at n p * 2 ^ q + bit_at n q * 2 ^ p

@@ -1,7 +1,7 @@
 //! Four words of bits as a matrix, transposed.
 ghost use Rattle.std.specs.Prelude.{◌≡◌, ◌<◌, ◌+◌, ◌-◌, ◌*◌, ◌/◌, ◌%◌, ◌^◌, ℕ, length, slice_index};
 ghost use Rattle.std.specs.Int.{bit_at};
-ghost use Rattle.arimaa_board.specs.Transpose.{bit_in, exchanged, swap_source};
+ghost use Rattle.arimaa_board.specs.Transpose.{bit_in, with_bits_exchanged, swap_source};
 
 // Two words in which the bits of the mask in the high word have changed places with those `shift`
 // places further up in the low word.
@@ -21,7 +21,8 @@ fn swapped(pair: [u64; 2], shift: u8, mask: u64) -> [u64; 2]
 fn near(pair: [u64; 2]) -> [u64; 2]
     ensures small { (k : ℕ) → k < 2 → slice_index result k < 2 ^ 64 }
     ensures bits { (n : ℕ) → n < 128
-        → bit_in result n ≡ bit_in pair (exchanged 6 0 (exchanged 6 2 (exchanged 6 4 n))) }
+        → bit_in result n ≡ bit_in pair
+        (with_bits_exchanged 6 0 (with_bits_exchanged 6 2 (with_bits_exchanged 6 4 n))) }
 {
     let ones = swapped(pair, 1, 0x5555_5555_5555_5555);
     let fours = swapped(ones, 4, 0x0f0f_0f0f_0f0f_0f0f);
@@ -32,7 +33,8 @@ fn near(pair: [u64; 2]) -> [u64; 2]
 fn far(pair: [u64; 2]) -> [u64; 2]
     ensures small { (k : ℕ) → k < 2 → slice_index result k < 2 ^ 64 }
     ensures bits { (n : ℕ) → n < 128
-        → bit_in result n ≡ bit_in pair (exchanged 6 1 (exchanged 6 3 (exchanged 6 5 n))) }
+        → bit_in result n ≡ bit_in pair
+        (with_bits_exchanged 6 1 (with_bits_exchanged 6 3 (with_bits_exchanged 6 5 n))) }
 {
     let twos = swapped(pair, 2, 0x3333_3333_3333_3333);
     let eights = swapped(twos, 8, 0x00ff_00ff_00ff_00ff);

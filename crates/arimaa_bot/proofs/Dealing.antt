@@ -17,7 +17,7 @@ use Rattle.arimaa_bot.specs.declared.stage.Stage.{Stage}
 use Rattle.arimaa_bot.specs.Calls.{HasEnded, HasFailed, HeardSo, IsCauseOf, IsRepliedTo, Passed, Told, WereSent, end_of}
 use Rattle.arimaa_bot.specs.Replies.{lines_of}
 use Rattle.arimaa_bot.specs.Stages.{stage_after}
-use Rattle.arimaa_bot.specs.Talk.{IsReply, all_sent, ended, half_sent, heard, no_line, no_reply, quits, too_long, unheard, unsent}
+use Rattle.arimaa_bot.specs.Talk.{IsReply, all_sent, ended, half_sent, heard_line, no_line, no_reply, quits, too_long, unheard, unsent}
 use Rattle.arimaa_bot.proofs.Causes.{later_faults}
 use Rattle.arimaa_bot.proofs.Passing.{passed_both}
 
@@ -31,14 +31,14 @@ unheard_ends ahead at old new line end.Quit h = absurd h
 unheard_ends ahead at old new line end.Words h = absurd h
 unheard_ends ahead at old new line end.Limit h = absurd h
 
-module _ (ahead : Lookahead) (at : Stage) (old mid : Told) (line : List ℕ) (told : Passed old mid (heard line ∷ []) []) where
+module _ (ahead : Lookahead) (at : Stage) (old mid : Told) (line : List ℕ) (told : Passed old mid (heard_line line ∷ []) []) where
   -- there is no memory for the reply
   pub unthought_ends : HasEnded ahead at old mid end.Memory
-  unthought_ends = record { answers = heard line ∷ []; sent = []; last = no_reply line; passed = told }
+  unthought_ends = record { answers = heard_line line ∷ []; sent = []; last = no_reply line; passed = told }
 
   -- the line is `quit`
   pub quit_ends : command_of line ≡ Ok command.Quit → HasEnded ahead at old mid end.Quit
-  quit_ends says = record { answers = heard line ∷ []; sent = []; last = quits line says; passed = told }
+  quit_ends says = record { answers = heard_line line ∷ []; sent = []; last = quits line says; passed = told }
 
   module _ (new : Told) (r : Reply) (reply : IsReply ahead at (command_of line) r) where
     -- the reply was sent
@@ -48,22 +48,22 @@ module _ (ahead : Lookahead) (at : Stage) (old mid : Told) (line : List ℕ) (to
       reply = r;
       is_reply = reply;
       after_is = is;
-      passed = passed_both old mid new (heard line ∷ []) (all_sent (lines_of r)) [] (lines_of r) told sent;
+      passed = passed_both old mid new (heard_line line ∷ []) (all_sent (lines_of r)) [] (lines_of r) told sent;
     }
 
     -- a line of it was not sent
     pub unsent_ends : (e : PortFault) → WereSent (lines_of r) mid new (Err e) → HasEnded ahead at old new (end_of e)
     unsent_ends port.Failed b = record {
-      answers = heard line ∷ (all_sent b.first ++ answer.Failed ∷ []);
+      answers = heard_line line ∷ (all_sent b.first ++ answer.Failed ∷ []);
       sent = b.first;
       last = unsent line r b.first b.next b.later reply b.parts;
-      passed = passed_both old mid new (heard line ∷ []) (all_sent b.first ++ answer.Failed ∷ []) [] b.first told b.passed;
+      passed = passed_both old mid new (heard_line line ∷ []) (all_sent b.first ++ answer.Failed ∷ []) [] b.first told b.passed;
     }
     unsent_ends port.Memory b = record {
-      answers = heard line ∷ all_sent b.first;
+      answers = heard_line line ∷ all_sent b.first;
       sent = b.first;
       last = half_sent line r b.first b.next b.later reply b.parts;
-      passed = passed_both old mid new (heard line ∷ []) (all_sent b.first) [] b.first told
+      passed = passed_both old mid new (heard_line line ∷ []) (all_sent b.first) [] b.first told
           (subst (λ (a : List PortAnswer). Passed mid new a b.first) (append-nil (all_sent b.first)) b.passed);
     }
 

@@ -9,7 +9,7 @@ use Rattle.arimaa_board.specs.ColorLaws.{same_color-refl}
 use Rattle.arimaa_forced.specs.declared.entry.Entry.{Entry}
 use Rattle.arimaa_forced.specs.Entries.{entry_with_marks}
 use Rattle.arimaa_model.specs.DecidedPositions.{decided}
-use Rattle.arimaa_model.specs.Strategies.{Planned, entry_of, first_met, met, strategy_of}
+use Rattle.arimaa_model.specs.Strategies.{Planned, entry_of, first_met, positions_met, strategy_of}
 use Rattle.arimaa_model.specs.Wins.{wins}
 use Rattle.arimaa_model.proofs.Lemmas.Meeting.{first-met}
 use Rattle.arimaa_model.proofs.Lemmas.Members.{In, filter-In}
@@ -25,7 +25,7 @@ first_of barred n p open_yet won =
     let passes : is_none (decided p) ≡ true = rw open_yet refl in
     let there : In p (filter (λ q. is_none (decided q)) (p ∷ [])) = filter-In (λ q. is_none (decided q)) p (p ∷ []) (inl refl) passes in
     let first : In p (first_met p.side barred p) = rw (same_color-refl p.side) there in
-    some_first (entry_of p.side barred n) p (met p.side barred n p n) (first-met p.side barred n p won n p first)
+    some_first (entry_of p.side barred n) p (positions_met p.side barred n p n) (first-met p.side barred n p won n p first)
 
 -- the first entry as it is written
 pub first_written : (s : List Entry) (entries : List Planned) (e : Planned) (first : Entry) → s ≡ map entry_with_marks entries → slice_get entries 0 ≡ Some e → first ≡ get_or s 0 first → first ≡ entry_with_marks e

@@ -12,7 +12,7 @@ use Rattle.arimaa_board.specs.Piece.{piece_of_letter}
 use Rattle.arimaa_board.specs.Setup.{Lineup}
 use Rattle.arimaa_board.specs.Text.{reading_of}
 use Rattle.arimaa_board.proofs.Lemmas.ReadingLaws.{read_IsBoardText}
-use Rattle.arimaa_notation.specs.Items.{after_word, items_of, trimmed, word_of}
+use Rattle.arimaa_notation.specs.Items.{after_word, items_of, without_outer_blanks, word_of}
 use Rattle.arimaa_notation.specs.Readers.{number_of_text, setup_of_text, turn_of_text}
 use Rattle.arimaa_aei.specs.Commands.{alone, command_of, command_said, move_said, option_named, option_of_parts, option_said, position_of_parts, setup_said, setup_told, side_of, turn_told, value_said}
 use Rattle.arimaa_aei.specs.Words.{command_word_of, option_of}
@@ -87,7 +87,7 @@ said_fits None rest = tt
 said_fits (Some word.Aei) rest = alone_fits (items_of rest) command.Aei tt
 said_fits (Some word.IsReady) rest = alone_fits (items_of rest) command.IsReady tt
 said_fits (Some word.NewGame) rest = alone_fits (items_of rest) command.NewGame tt
-said_fits (Some word.SetPosition) rest = parts_fit (side_of (word_of rest)) (reading_of (trimmed (after_word rest))) (λ b read. (read_IsBoardText (trimmed (after_word rest)) b read).fit)
+said_fits (Some word.SetPosition) rest = parts_fit (side_of (word_of rest)) (reading_of (without_outer_blanks (after_word rest))) (λ b read. (read_IsBoardText (without_outer_blanks (after_word rest)) b read).fit)
 said_fits (Some word.SetOption) rest = option_fits (items_of rest)
 said_fits (Some word.MakeMove) rest = move_fits (word_of rest) rest
 said_fits (Some word.Go) rest = alone_fits (items_of rest) command.Go tt

@@ -10,7 +10,7 @@ use Rattle.arimaa_bot.specs.declared.stage.Stage.TheVariants as stage
 use Rattle.arimaa_bot.specs.Calls.{HadSession, HasEnded, IsRepliedTo, Passed, Told}
 use Rattle.arimaa_bot.specs.Replies.{lines_of}
 use Rattle.arimaa_bot.specs.Stages.{stage_after}
-use Rattle.arimaa_bot.specs.Talk.{IsLast, IsReply, IsSession, Talk, all_sent, ended, enough, half_sent, heard, no_line, no_reply, none_yet, one_more, quits, stopped, too_long, unheard, unsent}
+use Rattle.arimaa_bot.specs.Talk.{IsLast, IsReply, IsSession, Talk, all_sent, ended, enough, half_sent, heard_line, no_line, no_reply, none_yet, one_more, quits, stopped, too_long, unheard, unsent}
 use Rattle.arimaa_bot.proofs.Passing.{passed_both, passed_nothing}
 
 -- so many lines were replied to, and the game has come to this stage
@@ -36,14 +36,14 @@ midst_more ahead k at after old mid new m r =
     record {
       talk = record {
         lines = t.lines ++ r.line ∷ [];
-        answers = t.answers ++ heard r.line ∷ all_sent (lines_of r.reply);
+        answers = t.answers ++ heard_line r.line ∷ all_sent (lines_of r.reply);
         sent = t.sent ++ lines_of r.reply;
         at = stage_after t.at (command_of r.line);
         replied = one_more t.lines t.answers t.sent t.at r.line r.reply t.replied (subst (λ (s : Stage). IsReply ahead s (command_of r.line) r.reply) (sym m.stage_is) r.is_reply);
       };
       many = omega arith;
       stage_is = ap (λ (s : Stage). stage_after s (command_of r.line)) m.stage_is ∙ sym r.after_is;
-      passed = passed_both old mid new t.answers (heard r.line ∷ all_sent (lines_of r.reply)) t.sent (lines_of r.reply) m.passed r.passed;
+      passed = passed_both old mid new t.answers (heard_line r.line ∷ all_sent (lines_of r.reply)) t.sent (lines_of r.reply) m.passed r.passed;
     }
 
 pub midst_ended : (ahead : Lookahead) (k : ℕ) (at : Stage) (old mid new : Told) (e : BotEnd) → k < 1000000 → Midst ahead k at old mid → HasEnded ahead at mid new e → HadSession ahead old new e

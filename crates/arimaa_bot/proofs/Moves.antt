@@ -9,16 +9,16 @@ use Rattle.arimaa_step.specs.MarkRules.{marks_fit}
 use Rattle.arimaa_game.specs.declared.fault.GameFault.{GameFault}
 use Rattle.arimaa_game.specs.declared.fault.GameFault.TheVariants as faults
 use Rattle.arimaa_game.specs.Faults.{IsFaultOf}
-use Rattle.arimaa_game.specs.Play.{GoesOn, Play, played}
-use Rattle.arimaa_bot.specs.Stages.{grown_by, moved}
+use Rattle.arimaa_game.specs.Play.{GoesOn, Play, play_outcome}
+use Rattle.arimaa_bot.specs.Stages.{grown_by, game_after_turn}
 
 module _ (g : Play) (p : Position) (noted : List NotedStep) (now : present g.history ≡ Some p) where
   -- a mark is wrong
-  pub moved_misfit : marks_fit Optional p.board noted ≡ false → moved g noted ≡ None
+  pub moved_misfit : marks_fit Optional p.board noted ≡ false → game_after_turn g noted ≡ None
   moved_misfit misfit = rw (now, misfit) refl
 
   -- the turn is played
-  pub moved_on : (new : Play) → marks_fit Optional p.board noted ≡ true → GoesOn g (noted_turn noted) new → moved g noted ≡ Some new
+  pub moved_on : (new : Play) → marks_fit Optional p.board noted ≡ true → GoesOn g (noted_turn noted) new → game_after_turn g noted ≡ Some new
   moved_on new fits went = rw (now, fits, went.2.answer) (ap Some (sym went.3))
 
   refused : (r : Result Position GameFault) (e : GameFault) → (e ≡ faults.Memory → ⊥) → IsFaultOf r e → grown_by g r ≡ None
@@ -26,5 +26,5 @@ module _ (g : Play) (p : Position) (noted : List NotedStep) (now : present g.his
   refused (Err why) e other is = refl
 
   -- the turn is refused
-  pub moved_refused : (e : GameFault) → marks_fit Optional p.board noted ≡ true → (e ≡ faults.Memory → ⊥) → IsFaultOf (played g (noted_turn noted)) e → moved g noted ≡ None
-  moved_refused e fits other is = rw (now, fits) (refused (played g (noted_turn noted)) e other is)
+  pub moved_refused : (e : GameFault) → marks_fit Optional p.board noted ≡ true → (e ≡ faults.Memory → ⊥) → IsFaultOf (play_outcome g (noted_turn noted)) e → game_after_turn g noted ≡ None
+  moved_refused e fits other is = rw (now, fits) (refused (play_outcome g (noted_turn noted)) e other is)

@@ -11,7 +11,7 @@ use Rattle.arimaa_aei.specs.declared.command.Command.TheVariants as command
 use Rattle.arimaa_aei.specs.declared.command.CommandFault.{CommandFault}
 use Rattle.arimaa_bot.specs.declared.stage.Stage.{Stage}
 use Rattle.arimaa_bot.specs.declared.stage.Stage.TheVariants as stage
-use Rattle.arimaa_bot.specs.Stages.{IsWhole, move_at, moved, set_up, set_up_gold, set_up_silver, stage_after}
+use Rattle.arimaa_bot.specs.Stages.{IsWhole, move_at, game_after_turn, set_up, set_up_gold, set_up_silver, stage_after}
 
 after_gold : (setup : Lineup) (c : Color) → setup.color ≡ c → IsWhole (unwrap_or (set_up_gold setup c) stage.Unset)
 after_gold setup Gold e = e
@@ -33,7 +33,7 @@ played_on g (Some h) = tt
 after_turn : (at : Stage) (noted : List NotedStep) → IsWhole at → IsWhole (unwrap_or (move_at at noted) at)
 after_turn stage.Unset noted w = tt
 after_turn (stage.GoldSet gold) noted w = w
-after_turn (stage.Playing g) noted w = played_on g (moved g noted)
+after_turn (stage.Playing g) noted w = played_on g (game_after_turn g noted)
 
 pub whole_after : (at : Stage) (says : Result Command CommandFault) → IsWhole at → IsWhole (stage_after at says)
 whole_after at (Err why) w = w

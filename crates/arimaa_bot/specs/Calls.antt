@@ -16,7 +16,7 @@ use Rattle.arimaa_bot.specs.declared.reply.Reply.{Reply}
 use Rattle.arimaa_bot.specs.declared.stage.Stage.{Stage}
 use Rattle.arimaa_bot.specs.Replies.{lines_of}
 use Rattle.arimaa_bot.specs.Stages.{stage_after}
-use Rattle.arimaa_bot.specs.Talk.{IsLast, IsReply, IsSession, all_sent, heard}
+use Rattle.arimaa_bot.specs.Talk.{IsLast, IsReply, IsSession, all_sent, heard_line}
 
 -- what a port tells: its answers, and the lines that it was sent
 pub record Told : Type 0 where
@@ -24,9 +24,10 @@ pub record Told : Type 0 where
   pub sent : Option (List (List ℕ))
 
 -- what a port tells, by the words for it
-abbrev pub told : {P : Type 0} → (P → Option (List PortAnswer)) → (P → Option (List (List ℕ))) → P
+abbrev pub told_by : {P : Type 0} → (P → Option (List PortAnswer)) → (P → Option (List (List ℕ)))
+    → P
     → Told
-told answers sent port = record { answers = answers port; sent = sent port }
+told_by answers sent port = record { answers = answers port; sent = sent port }
 
 -- a port gave these answers and was sent these lines
 pub record Passed (old new : Told) (answers : List PortAnswer) (sent : List (List ℕ)) : Type 0 where
@@ -74,7 +75,7 @@ IsCauseOf before now (Err e) =
 
 -- the port was listened to: a line, or how the session ends
 abbrev pub HeardSo : Told → Told → List ℕ → Result (Unit {0}) BotEnd → Type 0
-HeardSo old new line (Ok _) = Passed old new (heard line ∷ []) []
+HeardSo old new line (Ok _) = Passed old new (heard_line line ∷ []) []
 HeardSo old new line (Err end.Ended) = Passed old new (answer.Heard said.Ended ∷ []) []
 HeardSo old new line (Err end.Long) = Passed old new (answer.Heard said.Long ∷ []) []
 HeardSo old new line (Err end.Fault) = Passed old new (answer.Failed ∷ []) []
@@ -87,7 +88,7 @@ pub record IsRepliedTo (ahead : Lookahead) (at after : Stage) (old new : Told) :
   pub reply : Reply
   pub is_reply : IsReply ahead at (command_of line) reply
   pub after_is : after ≡ stage_after at (command_of line)
-  pub passed : Passed old new (heard line ∷ all_sent (lines_of reply)) (lines_of reply)
+  pub passed : Passed old new (heard_line line ∷ all_sent (lines_of reply)) (lines_of reply)
 
 -- the session has ended so
 pub record HasEnded (ahead : Lookahead) (at : Stage) (old new : Told) (e : BotEnd) : Type 0 where
@@ -101,7 +102,7 @@ abbrev pub IsDealt : Lookahead → Stage → Stage → Told → Told → Result 
 IsDealt ahead at after old new (Ok _) = IsRepliedTo ahead at after old new
 IsDealt ahead at after old new (Err e) = HasEnded ahead at old new e
 
--- a session with a port: it went through it so, and each end has its cause in what the port counted
+-- a session with a port went so
 pub record HadSession (ahead : Lookahead) (old new : Told) (e : BotEnd) : Type 0 where
   pub answers : List PortAnswer
   pub sent : List (List ℕ)

@@ -61,8 +61,8 @@ abbrev pub IsReplyOrQuit : Lookahead → Stage → Command → Option Reply → 
 IsReplyOrQuit ahead at c r = MatchReply ahead at (Ok c) r
 
 -- the port gave this line
-abbrev pub heard : List ℕ → PortAnswer
-heard line = answer.Heard (said.Line line)
+abbrev pub heard_line : List ℕ → PortAnswer
+heard_line line = answer.Heard (said.Line line)
 
 -- the port sent each of these lines
 abbrev pub all_sent : List (List ℕ) → List PortAnswer
@@ -76,7 +76,7 @@ pub data AreReplied (ahead : Lookahead)
   one_more : (lines : List (List ℕ)) (answers : List PortAnswer) (sent : List (List ℕ)) (at : Stage)
       (line : List ℕ) (r : Reply) → AreReplied ahead lines answers sent at
       → IsReply ahead at (command_of line) r
-      → AreReplied ahead (lines ++ line ∷ []) (answers ++ heard line ∷ all_sent (lines_of r))
+      → AreReplied ahead (lines ++ line ∷ []) (answers ++ heard_line line ∷ all_sent (lines_of r))
       (sent ++ lines_of r) (stage_after at (command_of line))
 
 -- the lines that were replied to
@@ -92,7 +92,7 @@ pub data IsLast (ahead : Lookahead) (at : Stage)
     : List PortAnswer → List (List ℕ) → BotEnd → Type 0 where
   -- the controller says `quit`
   quits : (line : List ℕ) → command_of line ≡ Ok command.Quit
-      → IsLast ahead at (heard line ∷ []) [] end.Quit
+      → IsLast ahead at (heard_line line ∷ []) [] end.Quit
   -- its lines have ended
   ended : IsLast ahead at (answer.Heard said.Ended ∷ []) [] end.Ended
   -- a line is too long
@@ -102,14 +102,14 @@ pub data IsLast (ahead : Lookahead) (at : Stage)
   unsent : (line : List ℕ) (r : Reply) (first : List (List ℕ)) (next : List ℕ)
       (later : List (List ℕ)) → IsReply ahead at (command_of line) r
       → lines_of r ≡ first ++ next ∷ later
-      → IsLast ahead at (heard line ∷ (all_sent first ++ answer.Failed ∷ [])) first end.Fault
+      → IsLast ahead at (heard_line line ∷ (all_sent first ++ answer.Failed ∷ [])) first end.Fault
   -- there is no memory for a line, for a reply, or for a line of a reply
   no_line : IsLast ahead at [] [] end.Memory
-  no_reply : (line : List ℕ) → IsLast ahead at (heard line ∷ []) [] end.Memory
+  no_reply : (line : List ℕ) → IsLast ahead at (heard_line line ∷ []) [] end.Memory
   half_sent : (line : List ℕ) (r : Reply) (first : List (List ℕ)) (next : List ℕ)
       (later : List (List ℕ)) → IsReply ahead at (command_of line) r
       → lines_of r ≡ first ++ next ∷ later
-      → IsLast ahead at (heard line ∷ all_sent first) first end.Memory
+      → IsLast ahead at (heard_line line ∷ all_sent first) first end.Memory
 
 -- a whole session: what the port answered, the lines that were sent, and the end
 pub data IsSession (ahead : Lookahead) : List PortAnswer → List (List ℕ) → BotEnd → Type 0 where

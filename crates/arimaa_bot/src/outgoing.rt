@@ -1,7 +1,7 @@
 //! Lines to the controller.
 ghost use Rattle.std.specs.Prelude.{[], map};
 ghost use Rattle.arimaa_outside.specs.Counts.{NeverFall};
-ghost use Rattle.arimaa_bot.specs.Calls.{HasFailed, WereSent, told};
+ghost use Rattle.arimaa_bot.specs.Calls.{HasFailed, WereSent, told_by};
 ghost use Rattle.arimaa_bot.specs.Replies.{lines_of};
 
 use crate::reply::Reply;
@@ -12,7 +12,7 @@ use std::alloc::Global;
 // Sends lines one after another.
 fn send_all<P: Port>(port: &mut P, lines: &[&[u8]]) -> Result<(), PortFault>
     ensures sent { WereSent (map (λ line. line.now) lines.now)
-        (told P.answers P.sent port.old) (told P.answers P.sent port.new) result }
+        (told_by P.answers P.sent port.old) (told_by P.answers P.sent port.new) result }
     ensures cause { HasFailed (P.counts port.old) (P.counts port.new) result }
     ensures never_falls { NeverFall (P.counts port.old) (P.counts port.new) }
 {
@@ -28,7 +28,7 @@ fn send_all<P: Port>(port: &mut P, lines: &[&[u8]]) -> Result<(), PortFault>
 // Sends the line of a setup or a turn.
 fn send_move<P: Port>(alloc: Global, port: &mut P, text: &[u8]) -> Result<(), PortFault>
     ensures sent { WereSent (lines_of (Reply.BestMove text.now))
-        (told P.answers P.sent port.old) (told P.answers P.sent port.new) result }
+        (told_by P.answers P.sent port.old) (told_by P.answers P.sent port.new) result }
     ensures cause { HasFailed (P.counts port.old) (P.counts port.new) result }
     ensures never_falls { NeverFall (P.counts port.old) (P.counts port.new) }
 {
@@ -45,7 +45,7 @@ pub(crate) fn send_reply<P: Port>(
     reply: &Reply,
 ) -> Result<(), PortFault>
     ensures sent { WereSent (lines_of reply.now)
-        (told P.answers P.sent port.old) (told P.answers P.sent port.new) result }
+        (told_by P.answers P.sent port.old) (told_by P.answers P.sent port.new) result }
     ensures cause { HasFailed (P.counts port.old) (P.counts port.new) result }
     ensures never_falls { NeverFall (P.counts port.old) (P.counts port.new) }
 {

@@ -2,7 +2,7 @@
 ghost use Rattle.std.specs.Prelude.{◌≡◌, ◌≢◌, Ok, IfOk, OnOk};
 ghost use Rattle.arimaa_aei.specs.Commands.{command_of};
 ghost use Rattle.arimaa_outside.specs.Counts.{NeverFall};
-ghost use Rattle.arimaa_bot.specs.Calls.{HadSession, HeardSo, IsCause, IsCauseOf, IsDealt, end_of, told};
+ghost use Rattle.arimaa_bot.specs.Calls.{HadSession, HeardSo, IsCause, IsCauseOf, IsDealt, end_of, told_by};
 ghost use Rattle.arimaa_bot.specs.Lookaheads.{AreWithinRanges, AskFor};
 ghost use Rattle.arimaa_bot.specs.Stages.{HasFitBoard, IsWhole, stage_after};
 ghost use Rattle.arimaa_bot.specs.Talk.{IsReplyOrQuit, MatchReply, reply_lawful, reply_refused};
@@ -24,7 +24,7 @@ pub const MOST_LINES: u32 = 1_000_000;
 
 // Hears the next line, or how the session ends.
 fn hear<P: Port>(port: &mut P, line: &mut Vec<u8>) -> Result<(), BotEnd>
-    ensures heard { HeardSo (told P.answers P.sent port.old) (told P.answers P.sent port.new)
+    ensures heard { HeardSo (told_by P.answers P.sent port.old) (told_by P.answers P.sent port.new)
         line.new.items result }
     ensures cause { IsCauseOf (P.counts port.old) (P.counts port.new) result }
     ensures never_falls { NeverFall (P.counts port.old) (P.counts port.new) }
@@ -144,7 +144,7 @@ fn deal<R: AllocGlobal + Threads + Sync, P: Port>(
     requires ranges { AreWithinRanges ahead.now }
     requires whole { IsWhole stage.old }
     ensures dealt { IsDealt ahead.now stage.old stage.new
-        (told P.answers P.sent port.old) (told P.answers P.sent port.new) result }
+        (told_by P.answers P.sent port.old) (told_by P.answers P.sent port.new) result }
     ensures cause { IsCauseOf (P.counts port.old) (P.counts port.new) result }
     ensures never_falls { NeverFall (P.counts port.old) (P.counts port.new) }
 {
@@ -171,8 +171,8 @@ fn talk<R: AllocGlobal + Threads + Sync, P: Port>(
     port: &mut P,
 ) -> BotEnd
     requires { AreWithinRanges ahead.now }
-    ensures session { HadSession ahead.now (told P.answers P.sent port.old)
-        (told P.answers P.sent port.new) result }
+    ensures session { HadSession ahead.now (told_by P.answers P.sent port.old)
+        (told_by P.answers P.sent port.new) result }
     ensures cause { IsCause (P.counts port.old) (P.counts port.new) result }
     ensures unfailed { result ≢ BotEnd.Fault
         → (P.counts port.new).faults ≡ (P.counts port.old).faults }
@@ -211,7 +211,7 @@ pub fn run_bot<R: AllocGlobal + Threads + Sync, P: Port>(
     port: &mut P,
 ) -> BotEnd
     ensures session { (ahead : Values) → AskFor words.now ahead
-        → HadSession ahead (told P.answers P.sent port.old) (told P.answers P.sent port.new)
+        → HadSession ahead (told_by P.answers P.sent port.old) (told_by P.answers P.sent port.new)
         result }
     ensures words { result ≡ BotEnd.Words → (ahead : Values) → ¬ AskFor words.now ahead }
     ensures misworded { ((ahead : Values) → ¬ AskFor words.now ahead) → result ≡ BotEnd.Words }

@@ -2,9 +2,9 @@
 ghost use Rattle.std.specs.Prelude.{◌≡◌, IfOk, OnOk, is_some};
 ghost use Rattle.std.specs.Option.{unwrap_or};
 ghost use Rattle.arimaa_board.specs.Fit.{IsFit};
-ghost use Rattle.arimaa_bot.specs.Stages.{IsWhole, move_at, moved, set_up};
+ghost use Rattle.arimaa_bot.specs.Stages.{IsWhole, move_at, game_after_turn, set_up};
 ghost use Rattle.arimaa_bot.specs.declared.stage.Stage.TheVariants as stages;
-ghost use Rattle.arimaa_game.specs.Play.{begun};
+ghost use Rattle.arimaa_game.specs.Play.{game_from};
 
 use arimaa_board::{Color, Noted, Position, Setup};
 use arimaa_game::{Game, GameFault};
@@ -45,8 +45,9 @@ fn set_up(alloc: Global, stage: &Stage, setup: Setup) -> Result<Option<Stage>, A
 
 // Plays a turn whose marks may be left out, and answers whether it is lawful.
 fn play(game: &mut Game, noted: &Noted) -> Result<bool, AllocError>
-    ensures after { OnOk result (game.new ≡ unwrap_or (moved game.old noted.now) game.old) }
-    ensures lawful { IfOk result (λ lawful. lawful ≡ is_some (moved game.old noted.now)) }
+    ensures after { OnOk result
+        (game.new ≡ unwrap_or (game_after_turn game.old noted.now) game.old) }
+    ensures lawful { IfOk result (λ lawful. lawful ≡ is_some (game_after_turn game.old noted.now)) }
 {
     let present = game.now();
     if !marks_fit(&present, noted, Marks::Optional) {
@@ -91,7 +92,7 @@ pub(crate) fn tell_turn(stage: &mut Stage, noted: &Noted) -> Result<bool, AllocE
 /// The stage of a game that begins with this position.
 pub(crate) fn begin_at(alloc: Global, p: Position) -> Result<Stage, AllocError>
     requires { IsFit p.board }
-    ensures { IfOk result (λ stage. stage ≡ stages.Playing (begun p)) }
+    ensures { IfOk result (λ stage. stage ≡ stages.Playing (game_from p)) }
 {
     match Game::from_start(alloc, p) {
         Ok(game) => Ok(Stage::Playing(game)),

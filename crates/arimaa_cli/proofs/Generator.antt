@@ -8,7 +8,7 @@ use Rattle.arimaa_board.specs.declared.position.Position.{Position}
 use Rattle.arimaa_board.specs.declared.position.Step.{Step}
 use Rattle.arimaa_board.specs.declared.ending.Ending.{Ending}
 use Rattle.arimaa_model.specs.DecidedPositions.{decided}
-use Rattle.arimaa_model.specs.Faults.{applied}
+use Rattle.arimaa_model.specs.Faults.{apply_result}
 use Rattle.arimaa_model.specs.Game.{barred_by, count_in, ended_for, ending, ending_at, lawful_at, present}
 use Rattle.arimaa_model.specs.Results.{next, position_of, result_of, results, stands_in}
 use Rattle.arimaa_model.specs.Turns.{after_all, is_turn}
@@ -20,7 +20,7 @@ use Rattle.arimaa_model.proofs.Lemmas.RelatedTurns.{turn-Decides}
 use Rattle.arimaa_record.specs.declared.label.Label.{Label}
 use Rattle.arimaa_record.specs.Label.{next_label}
 use Rattle.arimaa_step.proofs.Lemmas.Outcomes.{apply_law}
-use Rattle.arimaa_game.specs.Play.{Play, ending_of, played}
+use Rattle.arimaa_game.specs.Play.{Play, ending_of, play_outcome}
 use Rattle.arimaa_cli.specs.Commands.Make.{GoesOnAt, IsMadeFrom, IsPicked, number_after, turn_line}
 use Rattle.arimaa_cli.specs.Commands.Make.IsMadeFrom.{turn as one_more}
 
@@ -49,15 +49,15 @@ some_next h p on last = rw next-lawful (goes_on p (decided p) (lawful_at h p) (r
 
 -- the first turn to a position of the list may be played
 pub playable : (g : Play) (p q : Position) (turn : List Step) (k : ℕ) → ending_of g ≡ None → present g.history ≡ Some p
-    → slice_get (next (barred_by g.history) p) k ≡ Some q → result_of p turn ≡ Some q → played g turn ≡ Ok q
-unfolding played
+    → slice_get (next (barred_by g.history) p) k ≡ Some q → result_of p turn ≡ Some q → play_outcome g turn ≡ Ok q
+unfolding play_outcome
 playable g p q turn k on last place reaches =
     let is : is_turn p.board p.side turn ≡ true = result-turn p turn q reaches in
     let rules = (turn-Decides p.board p.side turn).0 is in
     let found = rw is at reaches in
     let there : position_of (after_all p.board turn) p ≡ q = cc in
-    let accepted : applied p turn ≡ Ok (position_of (after_all p.board turn) p) = (apply_law p turn rules.few _).1 (rules, refl) in
-    let reached : applied p turn ≡ Ok q = accepted ∙ ap (λ (x : Position). Ok x) there in
+    let accepted : apply_result p turn ≡ Ok (position_of (after_all p.board turn) p) = (apply_law p turn rules.few _).1 (rules, refl) in
+    let reached : apply_result p turn ≡ Ok q = accepted ∙ ap (λ (x : Position). Ok x) there in
     let member = in_at (next (barred_by g.history) p) k q place in
     let free = (In-filter (λ x. not (stands_in (barred_by g.history) x)) q (results p) member).1 in
     let once : count_in g.history q ≤ 1 = once-unbarred g.history q (not-true _ free) in

@@ -10,7 +10,7 @@ use Rattle.arimaa_cli.specs.declared.answer.Answer.{Answer}
 use Rattle.arimaa_cli.specs.declared.answer.Answer.TheVariants as answer
 use Rattle.arimaa_cli.specs.declared.commands.prove.Asked.{Asked}
 use Rattle.arimaa_cli.specs.declared.record.Game.{Game}
-use Rattle.arimaa_cli.specs.Commands.Prove.{IsOpenAt, IsProveAnswer, told}
+use Rattle.arimaa_cli.specs.Commands.Prove.{IsOpenAt, IsProveAnswer, answer_of_verdict}
 use Rattle.arimaa_cli.specs.Commands.Prove.IsProveAnswer.{crowded, no_win, spent, won}
 use Rattle.arimaa_cli.specs.Texts.{spent_text}
 
@@ -24,7 +24,7 @@ one_there (Some p) b e t = (p, refl)
 
 -- what is told of a right verdict is what prove answers
 pub verdict_answers : (ask : Asked) (game : Game) (p : Position) → IsOpenAt game p → (v : Verdict)
-    → IsAnswer (terms_of ask.attacker game.history ask.settings) p ask.depth v → Plays ask.attacker game.history v → IsProveAnswer ask game (told v)
+    → IsAnswer (terms_of ask.attacker game.history ask.settings) p ask.depth v → Plays ask.attacker game.history v → IsProveAnswer ask game (answer_of_verdict v)
 verdict_answers ask game p open_at (Yes r s) is plays = won p r s open_at (record { exact = is.1; within = is.0; own = is.2; plays = plays })
 verdict_answers ask game p open_at No is plays = no_win p open_at is
 verdict_answers ask game p open_at (Spent q j k) is plays =
@@ -32,7 +32,7 @@ verdict_answers ask game p open_at (Spent q j k) is plays =
 verdict_answers ask game p open_at (Crowded q j) is plays = crowded p q j open_at is.0 is.1
 
 -- an answer that tells a right verdict is right
-pub told_right : (ask : Asked) (game : Game) (v : Verdict) → IsProveAnswer ask game (told v) → (r : Result Answer AllocError) → IfOk r (λ a. a ≡ told v)
+pub told_right : (ask : Asked) (game : Game) (v : Verdict) → IsProveAnswer ask game (answer_of_verdict v) → (r : Result Answer AllocError) → IfOk r (λ a. a ≡ answer_of_verdict v)
     → IfOk r (IsProveAnswer ask game)
 told_right ask game v right (Ok a) e = subst (IsProveAnswer ask game) (sym e) right
 told_right ask game v right (Err x) e = tt

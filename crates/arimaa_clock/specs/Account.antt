@@ -18,12 +18,12 @@ is_out a used = nat_lt (a.control.turn + a.reserve) used
     || (nat_lt 0 a.control.limit && nat_lt a.control.limit used)
 
 -- an account as it is opened
-abbrev pub opened : Control → Standing
-opened c = record { control = c; reserve = c.reserve }
+abbrev pub new_account : Control → Standing
+new_account c = record { control = c; reserve = c.reserve }
 
 -- the account after a turn that took so long; one that has run out of time stays as it is
-abbrev pub booked : Standing → ℕ → Standing
-booked a used = if is_out a used then a else record a
+abbrev pub account_once_booked : Standing → ℕ → Standing
+account_once_booked a used = if is_out a used then a else record a
     { reserve = reserve_after a.control a.reserve used }
 
 -- what is answered for that turn
@@ -37,4 +37,4 @@ IfKept Out P = Unit {0}
 
 -- the account after turns that took so long, in order
 abbrev pub account_after : Control → List ℕ → Standing
-account_after c times = fold booked (opened c) times
+account_after c times = fold account_once_booked (new_account c) times

@@ -35,12 +35,12 @@ impl Model for Account {
 impl Account {
     ghost use Rattle.std.specs.Prelude.{◌≡◌, ◌↔◌, ◌^◌, ◌+◌, List, [], ◌∷◌, ◌++◌, ℕ, ◌<◌, ◌≤◌};
     ghost use Rattle.arimaa_time.specs.declared.control.Control.{Control as TimeControl};
-    ghost use Rattle.arimaa_clock.specs.Account.{IsOut, IfKept, is_out, opened, booked, answer_of, account_after};
-    ghost use Rattle.arimaa_clock.specs.Reserve.{ceiling_of, gain_of, grown, reserve_after};
+    ghost use Rattle.arimaa_clock.specs.Account.{IsOut, IfKept, is_out, new_account, account_once_booked, answer_of, account_after};
+    ghost use Rattle.arimaa_clock.specs.Reserve.{ceiling_of, gain_of, grown_reserve, reserve_after};
 
     /// An account with the reserve that the time control starts with.
     pub fn new(control: &Control) -> Account
-        ensures { result ≡ opened control.now }
+        ensures { result ≡ new_account control.now }
     {
         Account {
             control: *control,
@@ -62,7 +62,7 @@ impl Account {
     pub fn spend(&mut self, used: u64) -> Spend
         ensures out { (result ≡ Spend.Out) ↔ IsOut self.old used }
         ensures answer { result ≡ answer_of self.old used }
-        ensures step { self.new ≡ booked self.old used }
+        ensures step { self.new ≡ account_once_booked self.old used }
         ensures unchanged { result ≡ Spend.Out → self.new ≡ self.old }
         ensures kept { IfKept result (λ reserve. reserve ≡ self.new.reserve) }
 
@@ -104,7 +104,7 @@ impl Account {
 
     // The reserve with what a turn leaves of its own time.
     fn grown(&self, used: u64) -> u64
-        ensures { result ≡ grown self.now.control self.now.reserve used }
+        ensures { result ≡ grown_reserve self.now.control self.now.reserve used }
     {
         let full = self.ceiling().max(self.reserve);
         let grown = u128::from(self.reserve) + self.gain(used);

@@ -10,7 +10,7 @@ use Rattle.arimaa_board.specs.declared.position.Step.{Step}
 use Rattle.arimaa_board.specs.declared.ending.Ending.{Ending}
 use Rattle.arimaa_board.specs.declared.ending.Word.{Word}
 use Rattle.arimaa_model.specs.declared.fault.ApplyFault.{ApplyFault}
-use Rattle.arimaa_model.specs.Faults.{applied}
+use Rattle.arimaa_model.specs.Faults.{apply_result}
 use Rattle.arimaa_model.specs.Game.{IsLawful, closed_by, count_in, ending, present}
 use Rattle.arimaa_model.specs.Marks.{marks_right}
 use Rattle.arimaa_step.specs.Future.{IsTurnTo}
@@ -24,16 +24,16 @@ pub record Play : Type 0 where
   pub closing : Option Word
 
 -- the game that begins with a position
-abbrev pub begun : Position → Play
-begun p = record { history = p ∷ []; closing = None }
+abbrev pub game_from : Position → Play
+game_from p = record { history = p ∷ []; closing = None }
 
 -- the game with one more position
-abbrev pub grown : Play → Position → Play
-grown g q = record { history = g.history ++ q ∷ []; closing = g.closing }
+abbrev pub game_with : Play → Position → Play
+game_with g q = record { history = g.history ++ q ∷ []; closing = g.closing }
 
 -- the game that a word has closed
-abbrev pub closed : Play → Word → Play
-closed g word = record { history = g.history; closing = Some word }
+abbrev pub game_closed_by : Play → Word → Play
+game_closed_by g word = record { history = g.history; closing = Some word }
 
 -- the ending by a word, if one closed the game: the side to move has lost
 abbrev pub ending_by : Option Word → Option Position → Option Ending
@@ -52,15 +52,16 @@ unless_third h (Err e) = Err (fault_of e)
 unless_third h (Ok q) = if nat_le 2 (count_in h q) then Err faults.Repeat else Ok q
 
 -- what a turn from the present position brings about, or its fault
-abbrev pub turned : List Position → Option Position → List Step → Result Position GameFault
-turned h None steps = Err faults.Over
-turned h (Some p) steps = unless_third h (applied p steps)
+abbrev pub turn_outcome : List Position → Option Position → List Step → Result Position GameFault
+turn_outcome h None steps = Err faults.Over
+turn_outcome h (Some p) steps = unless_third h (apply_result p steps)
 
 -- what a turn brings about in a game, or its first fault: that the game has ended comes before all
 -- others
-unfoldable pub played : Play → List Step → Result Position GameFault
-played g steps =
-    if is_some (ending_of g) then Err faults.Over else turned g.history (present g.history) steps
+unfoldable pub play_outcome : Play → List Step → Result Position GameFault
+play_outcome g steps =
+    if is_some (ending_of g) then Err faults.Over
+    else turn_outcome g.history (present g.history) steps
 
 -- what a turn with marks that are right or not brings about: wrong marks are a fault that comes
 -- after an ended game and a step that is refused, and before all others
@@ -78,7 +79,7 @@ has_right_marks (Some p) noted = marks_right p.board (noted_turn noted) (noted_m
 -- what a turn with marks brings about in a game, or its first fault
 abbrev pub played_noted : Play → List NotedStep → Result Position GameFault
 played_noted g noted =
-    unless_marked (has_right_marks (present g.history) noted) (played g (noted_turn noted))
+    unless_marked (has_right_marks (present g.history) noted) (play_outcome g (noted_turn noted))
 
 -- each position but the first follows on a game that had not ended, and in which a turn may bring
 -- it about
@@ -102,7 +103,7 @@ pub record IsKept (g : Play) (ended : Option Ending) : Type 0 where
 
 -- a turn from p reaches q in a game that goes on: it may be played unless q stands twice already
 pub record Reaches (g : Play) (p : Position) (steps : List Step) (q : Position) : Type 0 where
-  pub answer : played g steps ≡ unless_third g.history (Ok q)
+  pub answer : play_outcome g steps ≡ unless_third g.history (Ok q)
   pub running : ending_of g ≡ None
   pub present : present g.history ≡ Some p
   pub turn : IsTurnTo p steps q
@@ -111,7 +112,7 @@ pub record Reaches (g : Play) (p : Position) (steps : List Step) (q : Position) 
 
 -- a turn from p brings q about in a game that goes on, and the rules of the game allow q
 pub record BringsAbout (g : Play) (p : Position) (steps : List Step) (q : Position) : Type 0 where
-  pub answer : played g steps ≡ Ok q
+  pub answer : play_outcome g steps ≡ Ok q
   pub running : ending_of g ≡ None
   pub present : present g.history ≡ Some p
   pub turn : IsTurnTo p steps q
@@ -121,7 +122,7 @@ pub record BringsAbout (g : Play) (p : Position) (steps : List Step) (q : Positi
 -- a game has gone on by a turn: what the turn brings about stands at the end
 abbrev pub GoesOn : Play → List Step → Play → Type 0
 GoesOn old steps new =
-    (p : Position) × (q : Position) × BringsAbout old p steps q × (new ≡ grown old q)
+    (p : Position) × (q : Position) × BringsAbout old p steps q × (new ≡ game_with old q)
 
 -- the number of turns that stand in a game: each position but the first was brought about by one
 abbrev pub turns_in : List Position → ℕ
@@ -138,6 +139,6 @@ take_back_fault g =
 -- goes on
 pub record TakesBack (old : Play) (p : Position) (new : Play) : Type 0 where
   pub last : Position
-  pub before : old ≡ grown new last
+  pub before : old ≡ game_with new last
   pub present : present new.history ≡ Some p
   pub running : ending_of new ≡ None

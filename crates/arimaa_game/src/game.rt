@@ -10,7 +10,7 @@ ghost use Rattle.arimaa_model.specs.Marks.{marks_right};
 ghost use Rattle.arimaa_model.specs.FirstFaults.{first_fault_in};
 ghost use Rattle.arimaa_game.specs.Setups.{HoldsSetups, board_after_setups, position_after_setups};
 ghost use Rattle.arimaa_game.specs.Faults.{IsFaultOf, rule_of_answer};
-ghost use Rattle.arimaa_game.specs.Play.{GoesOn, IsGame, Reaches, TakesBack, begun, closed, ending_of, grown, played, played_noted, take_back_fault, turns_in, unless_marked, unless_third};
+ghost use Rattle.arimaa_game.specs.Play.{GoesOn, IsGame, Reaches, TakesBack, game_from, game_closed_by, ending_of, game_with, play_outcome, played_noted, take_back_fault, turns_in, unless_marked, unless_third};
 
 use crate::ending::ending_at;
 use crate::fault::{GameFault, fault_of};
@@ -52,7 +52,7 @@ impl Game {
         requires gold { gold.now.color ≡ colors.Gold }
         requires silver { silver.now.color ≡ colors.Silver }
         ensures begun { IfOk result
-            (λ game. game ≡ begun (position_after_setups gold.now silver.now)) }
+            (λ game. game ≡ game_from (position_after_setups gold.now silver.now)) }
         ensures board { HoldsSetups gold.now silver.now (board_after_setups gold.now silver.now) }
     {
         Game::from_start(alloc, position_after(gold, silver))
@@ -63,7 +63,7 @@ impl Game {
     /// A position that is won as it stands is a game that has ended.
     pub fn from_start(alloc: Global, p: Position) -> Result<Game, AllocError>
         requires { IsFit p.board }
-        ensures { IfOk result (λ game. game ≡ begun p) }
+        ensures { IfOk result (λ game. game ≡ game_from p) }
     {
         let mut history = History::new(alloc);
         history.push(p)?;
@@ -90,7 +90,7 @@ impl Game {
         ensures played { OnOk result (GoesOn self.old turn.now self.new) }
         ensures ending { IfOk result (λ ended. ended ≡ ending self.new.history) }
         ensures answer { IfOk result (λ ended. ended ≡ ending_of self.new) }
-        ensures fault { IfErr result (λ e. IsFaultOf (played self.old turn.now) e) }
+        ensures fault { IfErr result (λ e. IsFaultOf (play_outcome self.old turn.now) e) }
         ensures refused { OnErr result (self.new ≡ self.old) }
 
         // For a turn with the right marks the fault is the first that the rules of the game name.
@@ -130,7 +130,7 @@ impl Game {
 
     // The fault of a turn whose marks are wrong: a step that is refused comes before the marks.
     fn fault_of_unmarked(&self, turn: &Turn) -> GameFault
-        ensures { unless_marked false (played self.now turn.now) ≡ Err result }
+        ensures { unless_marked false (play_outcome self.now turn.now) ≡ Err result }
     {
         match self.reached(turn) {
             Err(GameFault::Over) => GameFault::Over,
@@ -141,7 +141,7 @@ impl Game {
 
     // The position that a turn reaches, or what keeps it from reaching one.
     fn reached(&self, turn: &Turn) -> Result<Position, GameFault>
-        ensures fault { IfErr result (λ e. played self.now turn.now ≡ Err e) }
+        ensures fault { IfErr result (λ e. play_outcome self.now turn.now ≡ Err e) }
         ensures reached { IfOk result (λ q. (p : Position) × Reaches self.now p turn.now q) }
     {
         if self.ending.is_some() {
@@ -161,7 +161,7 @@ impl Game {
         requires lawful { count_in self.old.history reached ≤ 1
             → IsLawful self.old.history reached }
         requires fit { IsFit reached.board }
-        ensures added { OnOk result (self.new ≡ grown self.old reached) }
+        ensures added { OnOk result (self.new ≡ game_with self.old reached) }
         ensures few { OnOk result (count_in self.old.history reached ≤ 1) }
         ensures ending { IfOk result (λ ended. ended ≡ ending self.new.history) }
         ensures answer { IfOk result (λ ended. ended ≡ ending_of self.new) }
@@ -184,7 +184,7 @@ impl Game {
     pub fn close(&mut self, word: Word) -> Result<Ending, GameFault>
         ensures over { IsErr result ↔ IsSome (ending_of self.old) }
         ensures fault { IfErr result (λ e. e ≡ GameFault.Over) }
-        ensures closed { OnOk result (self.new ≡ closed self.old word) }
+        ensures closed { OnOk result (self.new ≡ game_closed_by self.old word) }
         ensures loser { IfOk result
             (λ ended. (p : Position) → present self.old.history ≡ Some p
             → ended ≡ closed_by word p.side) }

@@ -16,8 +16,8 @@ abbrev pub empty_line : Line
 empty_line = line_of (0 ∷ 0 ∷ 0 ∷ 0 ∷ 0 ∷ 0 ∷ [])
 
 -- the line of bounds with a stamp
-abbrev pub encoded : Bounds → ℕ → Line
-encoded k stamp = line_of (line_words k stamp)
+abbrev pub line_of_bounds : Bounds → ℕ → Line
+line_of_bounds k stamp = line_of (line_words k stamp)
 
 -- the last word
 abbrev pub stamp_of : Line → ℕ
@@ -28,7 +28,7 @@ pub record IsLineOf (l : Line) (k : Bounds) : Type 0 where
   pub board : length k.position.board ≡ 64
   pub bounds : AreBounds k.low k.high
   pub stamp : 1 ≤ stamp_of l
-  pub words : l ≡ encoded k (stamp_of l)
+  pub words : l ≡ line_of_bounds k (stamp_of l)
 
 -- the line says these bounds, and they are on this position
 abbrev pub Says : Line → Position → Bounds → Type 0

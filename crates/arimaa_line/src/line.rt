@@ -5,7 +5,7 @@ ghost use Rattle.arimaa_board.specs.declared.piece.Color.{Color};
 ghost use Rattle.arimaa_board.specs.declared.position.Position.{Position};
 ghost use Rattle.arimaa_line.specs.declared.bounds.Bounds.{Bounds};
 ghost use Rattle.arimaa_line.specs.Bounds.{AreBounds, AreTrueBounds, KeepsBounds};
-ghost use Rattle.arimaa_line.specs.Lines.{encoded, empty_line, stamp_of, IsLineOf, Says};
+ghost use Rattle.arimaa_line.specs.Lines.{line_of_bounds, empty_line, stamp_of, IsLineOf, Says};
 ghost use Rattle.arimaa_line.specs.Lines.{IsTrueLine, IsLine, LosesNoBound};
 
 use crate::bounds::{Bounds, are_bounds, bounds_of, bounds_word, tightest};
@@ -31,7 +31,7 @@ impl Line {
 pub fn encode(bounds: &Bounds, stamp: u64) -> Line
     requires bounds { AreBounds bounds.now.low bounds.now.high }
     requires stamp { 1 ≤ stamp }
-    ensures words { result ≡ encoded bounds.now stamp }
+    ensures words { result ≡ line_of_bounds bounds.now stamp }
     ensures stamp { stamp_of result ≡ stamp }
     ensures reads_back { IsLineOf result bounds.now }
 {

@@ -16,7 +16,7 @@ use Rattle.arimaa_match.specs.declared.ending.MatchEnd.TheVariants as end
 use Rattle.arimaa_match.specs.declared.side_fault.SideFault.{SideFault}
 use Rattle.arimaa_match.specs.Match.{IfEndsByFault, IfEngineFault}
 use Rattle.arimaa_match.specs.Texts.{HasEnded}
-use Rattle.arimaa_match.specs.Parts.{Part, Scene, Went, WentSo, counts_at, IfFault, stopped}
+use Rattle.arimaa_match.specs.Parts.{Part, Scene, Went, WentSo, counts_at, IfFault, outcome_of_call}
 
 -- no count of either port fell
 pub record NeitherFell (before now : Scene) : Type 0 where
@@ -95,7 +95,7 @@ end_sooner old mid new end.Limit n cause = tt
 -- what stops a call of a side's session has its cause
 pub side_cause : {X : Type 0} (side : Color) (old new : Scene) (r : Result X EngineFault)
     → HasCause (counts_at side old) (counts_at side new) r
-    → IfOk (stopped side r) (IfFault old new)
+    → IfOk (outcome_of_call side r) (IfFault old new)
 side_cause side old new (Ok x) cause = tt
 side_cause side old new (Err fault.Failed) cause = (cause, tt)
 side_cause side old new (Err fault.Ended) cause = (cause, tt)

@@ -10,7 +10,7 @@ use Rattle.arimaa_match.specs.declared.log.Booked.{Booked}
 use Rattle.arimaa_match.specs.declared.side_fault.SideFault.{SideFault}
 use Rattle.arimaa_record.specs.declared.line.RecordLine.{RecordLine}
 use Rattle.arimaa_match.specs.Match.{Finished, playing, quitting}
-use Rattle.arimaa_match.specs.Parts.{Scene, Went, done, with_engine}
+use Rattle.arimaa_match.specs.Parts.{Scene, Went, value_part, with_engine}
 use Rattle.arimaa_match.specs.MatchState.{MatchState}
 use Rattle.arimaa_match.proofs.Parts.{went_done, went_off, went_on}
 use Rattle.arimaa_match.proofs.Turns.{went_to}
@@ -58,7 +58,7 @@ playing_as n {s} {t} {old} {new} {r} same a = subst (λ s. Went (playing n s) ol
 -- what a match leaves
 pub left_with : {s : Scene} {lines written : List RecordLine} {log kept : List Booked}
     (how : MatchEnd) → written ≡ lines → kept ≡ log
-    → Went {X = MatchDone} (done (record { written = lines; ending = how; log = log })) s s
+    → Went {X = MatchDone} (value_part (record { written = lines; ending = how; log = log })) s s
     (Ok (record { written = written; ending = how; log = kept }))
 left_with {s} {lines} {written} {log} {kept} how one two =
     went_to went_done

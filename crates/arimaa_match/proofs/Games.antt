@@ -12,7 +12,7 @@ use Rattle.arimaa_model.specs.declared.fault.ApplyFault.{ApplyFault}
 use Rattle.arimaa_model.specs.declared.fault.FirstFault.{FirstFault}
 use Rattle.arimaa_model.specs.declared.fault.StepFault.{StepFault}
 use Rattle.arimaa_model.specs.declared.fault.TurnFault.{TurnFault}
-use Rattle.arimaa_model.specs.Faults.{applied, first_fault, judged_turn, reached_by, turn_fault}
+use Rattle.arimaa_model.specs.Faults.{apply_result, first_fault, judged_turn, reached_by, turn_fault}
 use Rattle.arimaa_model.specs.FirstFaults.{first_fault_in, step_or_whole, whole_fault}
 use Rattle.arimaa_model.specs.Marks.{marks_of, marks_right}
 use Rattle.arimaa_model.specs.Moves.{after}
@@ -87,8 +87,8 @@ turn_of_marked b (s ∷ rest) =
 -- steps that are no turn have a first fault, whatever their marks
 has_fault : (h : List Position) (p : Position) (steps : List Step)
     (marks : List (Option (Piece × ℕ))) (e : ApplyFault)
-    → applied p steps ≡ Err e → is_some (first_fault_in h p steps marks) ≡ true
-unfolding applied first_fault_in
+    → apply_result p steps ≡ Err e → is_some (first_fault_in h p steps marks) ≡ true
+unfolding apply_result first_fault_in
 has_fault h p steps marks e is =
     by_parts (first_fault p.board p.side steps) (turn_fault p.board p.side (reverse steps))
     (reached_by p (reverse steps)) (marks_right p.board steps marks)
@@ -107,7 +107,7 @@ some_rule None is = absurd (cc)
 
 -- steps that are no turn break a rule
 no_turn_unlawful : (h : List Position) (p : Position) (steps : List Step) (e : ApplyFault)
-    → present h ≡ Some p → applied p steps ≡ Err e
+    → present h ≡ Some p → apply_result p steps ≡ Err e
     → None ≡ if_lawful h (rightly_marked p.board steps)
 no_turn_unlawful h p steps e now refused = by_ending (ending h) refl where
   marked : List NotedStep
@@ -117,8 +117,8 @@ no_turn_unlawful h p steps e now refused = by_ending (ending h) refl where
   by_ending (Some ended) is = rw is refl
   by_ending None is =
       let first = first_fault_in h p (noted_turn marked) (noted_marks marked) in
-      let none : applied p (noted_turn marked) ≡ Err e =
-      ap (applied p) (turn_of_marked p.board steps) ∙ refused in
+      let none : apply_result p (noted_turn marked) ≡ Err e =
+      ap (apply_result p) (turn_of_marked p.board steps) ∙ refused in
       let broken : is_some (turn_rule h marked) ≡ true =
       ap is_some (sym (first_rule h p marked first now refl))
       ∙ some_rule first (has_fault h p (noted_turn marked) (noted_marks marked) e none) in
@@ -134,7 +134,7 @@ module _ (h : List Position) (p : Position) (noted : List NotedStep) (now : pres
       (if_lawful h (rightly_marked p.board (noted_turn noted))) None) fits
 
   -- steps that are no turn make none
-  pub turn_refused : (e : ApplyFault) → applied p (noted_turn noted) ≡ Err e
+  pub turn_refused : (e : ApplyFault) → apply_result p (noted_turn noted) ≡ Err e
       → None ≡ turn_in h noted
   turn_refused e refused = no_turn_unlawful h p (noted_turn noted) e now refused ∙ sym turn_fits
 

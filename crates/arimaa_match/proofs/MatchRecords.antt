@@ -27,7 +27,7 @@ use Rattle.arimaa_engine.specs.declared.fault.EngineFault.{EngineFault}
 use Rattle.arimaa_engine.specs.declared.fault.EngineFault.TheVariants as fault
 use Rattle.arimaa_engine.specs.Session.{opening}
 use Rattle.arimaa_engine.specs.Waits.{text_of_move}
-use Rattle.arimaa_aei.specs.Answers.{spoken}
+use Rattle.arimaa_aei.specs.Answers.{speech_of_line}
 use Rattle.arimaa_clock.specs.Account.{answer_of}
 use Rattle.arimaa_clock.specs.declared.account.Spend.{Spend}
 use Rattle.arimaa_clock.specs.declared.account.Spend.TheVariants as spend
@@ -41,11 +41,11 @@ use Rattle.arimaa_match.specs.declared.ending.MatchEnd.TheVariants as end
 use Rattle.arimaa_match.specs.declared.ending.Verdict.{Verdict}
 use Rattle.arimaa_match.specs.declared.ending.Verdict.TheVariants as verdict
 use Rattle.arimaa_match.specs.declared.ending.MatchCause.TheVariants as cause
-use Rattle.arimaa_match.specs.MatchState.{Made, MatchState, Moves, Places, Ruling, after_booking, account_of, before_match, booking, closed, command_of, if_lawful, is_over, is_resignation, line_of, lost_by, logged, made_by, rightly_marked, rule_broken, ruling, ruling_after, ruling_of, side_due, spent, spent_by, turn_at, turn_read_in, with_line}
+use Rattle.arimaa_match.specs.MatchState.{Made, MatchState, Moves, Places, Ruling, after_booking, account_of, before_match, booking, loss_by_word, command_of, if_lawful, is_over, is_resignation, line_of, lost_by, with_time_logged, made_by, rightly_marked, rule_broken, ruling, ruling_after, ruling_of, side_due, with_time_spent, spent_by, turn_at, turn_read_in, with_line}
 use Rattle.arimaa_match.specs.declared.ending.MatchDone.{MatchDone}
 use Rattle.arimaa_match.specs.declared.side_fault.SideFault.{SideFault}
 use Rattle.arimaa_match.specs.Match.{Finished, Thought, Turned, after_announcing, after_thinking, after_turn, after_verdict, announcing, ended_by, left_by, match_of, playing, quitting, quitting_both, thinking, turn}
-use Rattle.arimaa_match.specs.Parts.{Coming, Part, Ran, Scene, Went, and_then, done, going_on, joined, with_engine}
+use Rattle.arimaa_match.specs.Parts.{Coming, Part, Ran, Scene, Went, and_then, value_part, going_on, and_coming, with_engine}
 use Rattle.arimaa_match.specs.Programs.{after_gold, after_silver, match_of_programs, unbegun, unstarted}
 use Rattle.arimaa_match.specs.Records.{IsAcceptedMatch, ending_in_record}
 use Rattle.arimaa_match.proofs.KeptRecords.{IsBookedRecord, IsLastRecord, bare_last, closing_last, ended_last, later_booked, running_last, setup_more, turn_more}
@@ -105,7 +105,7 @@ module _ (s : MatchState) (k : ℕ) (kept : IsKeptMatch s k) (small : k ≤ 1000
       → IsBookedRecord (with_line s (line_of s made)).lines (with_line s (line_of s made)).game
       (k + 1) → Left (Some made)
   made_left made booked =
-      booked_ruling (with_line (logged s used) (line_of s made)) (command_of made) (k + 1)
+      booked_ruling (with_line (with_time_logged s used) (line_of s made)) (command_of made) (k + 1)
       (omega arith) booked
 
   turn_left : is_playing s.game ≡ true → (p : Position) (marked : List NotedStep)
@@ -161,7 +161,7 @@ module _ (s : MatchState) (k : ℕ) (kept : IsKeptMatch s k) (small : k ≤ 1000
       (λ setup e. (setup_named words (side_due s) setup e).side)
 
   in_time_left : (words : List ℕ) (resigns : Bool) → let r : Ruling =
-      cond resigns (lost_by s (closed s word.Resigns) cause.Resign)
+      cond resigns (lost_by s (loss_by_word s word.Resigns) cause.Resign)
       (ruling_of s used (made_by s words)) in IsRuledRecord r.state r.verdict (k + 1)
   in_time_left words true =
       closing_last s.lines s.game k kept.booked (omega arith) word.Resigns kept.running
@@ -184,7 +184,7 @@ ruling_left : (s : MatchState) (k used : ℕ) (words : List ℕ) → IsKeptMatch
     → IsRuledRecord (ruling s used words).state (ruling s used words).verdict (k + 1)
 unfolding ruling
 ruling_left s k used words kept small =
-    answer_left (spent s used) k (spent_kept s k used (side_due s) kept) small used words
+    answer_left (with_time_spent s used) k (spent_kept s k used (side_due s) kept) small used words
     (answer_of (account_of s (side_due s)) used)
 
 -- a part with a value led to it from the value of its first part
@@ -227,7 +227,7 @@ verdict_left s verdict.Limit k c t small ruled is =
     (same_Some (record { state = s; end = Some end.Limit }) t is) ruled
 verdict_left s (verdict.Moved made) k c t small ruled is =
     value_of (λ (t : Turned). IsTurnedRecord t.state t.end k) (announcing made)
-    (λ told. done (after_announcing s told)) c t is
+    (λ told. value_part (after_announcing s told)) c t is
     (λ told was e. announced_left s k told t ruled small e)
 
 thought_left : (s : MatchState) (k : ℕ) (r : Result Thought SideFault) (c : Coming) (t : Turned)
@@ -238,9 +238,9 @@ thought_left s k (Err f) c t kept small is =
     (record { booked = later_booked s.lines s.game k kept.booked; running = kept.running })
     (omega arith) is
 thought_left s k (Ok th) c t kept small is =
-    verdict_left (ruling s th.used (text_of_move (spoken th.line))).state
-    (ruling s th.used (text_of_move (spoken th.line))).verdict (k + 1) c t (omega arith)
-    (ruling_left s k th.used (text_of_move (spoken th.line)) kept small) is
+    verdict_left (ruling s th.used (text_of_move (speech_of_line th.line))).state
+    (ruling s th.used (text_of_move (speech_of_line th.line))).verdict (k + 1) c t (omega arith)
+    (ruling_left s k th.used (text_of_move (speech_of_line th.line)) kept small) is
 
 turn_left_so : (s : MatchState) (k : ℕ) (c : Coming) (t : Turned) → IsKeptMatch s k → k ≤ 100001
     → (turn s c).value ≡ Some t → IsTurnedRecord t.state t.end (k + 1)
@@ -301,8 +301,8 @@ pub match_accepted : (control : Control) (c : Coming) (m : MatchDone)
 unfolding match_of
 match_accepted control c m is =
     value_of IsAcceptedMatch (playing 100002 (before_match control))
-    (λ f. and_then (quitting_both f.how) (λ _. done (left_by f))) c m is
-    (λ f was e. value_of IsAcceptedMatch (quitting_both f.how) (λ _. done (left_by f)) _ m e
+    (λ f. and_then (quitting_both f.how) (λ _. value_part (left_by f))) c m is
+    (λ f was e. value_of IsAcceptedMatch (quitting_both f.how) (λ _. value_part (left_by f)) _ m e
     (λ u quit last. subst IsAcceptedMatch (same_Some (left_by f) m last)
     (accepted_of f
     (playing_left 100002 0 (before_match control) c f refl (begun_kept control) was))))
@@ -322,7 +322,7 @@ silver_accepted : (control : Control) (r : Result (Unit {0}) SideFault) (c : Com
     → (after_silver control r c).value ≡ Some m → IsAcceptedMatch m
 silver_accepted control (Ok x) c m is = match_accepted control c m is
 silver_accepted control (Err f) c m is =
-    value_of IsAcceptedMatch (quitting Gold false) (λ _. done (unbegun f.side f.fault)) c m is
+    value_of IsAcceptedMatch (quitting Gold false) (λ _. value_part (unbegun f.side f.fault)) c m is
     (λ u was e. subst IsAcceptedMatch (same_Some (unbegun f.side f.fault) m e)
     (unbegun_accepted f.side f.fault))
 
@@ -349,5 +349,5 @@ pub went_accepted : {part : Part MatchDone} {old new : Scene} (r : Result MatchD
 went_accepted {part} {old} {new} (Err e) each went = tt
 went_accepted {part} {old} {new} (Ok m) each went =
     let nothing : Coming = record { gold = []; silver = []; moments = [] } in
-    each (joined went.so.heard nothing) m
+    each (and_coming went.so.heard nothing) m
     (ap (λ (r : Ran MatchDone). r.value) (went.so.agrees nothing))

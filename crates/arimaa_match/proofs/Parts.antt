@@ -4,9 +4,9 @@ use Rattle.std.specs.declared.alloc.AllocError.{AllocError}
 use Rattle.arimaa_outside.specs.ToldLines.{TellsMore, told_after}
 use Rattle.arimaa_outside.proofs.Lemmas.CountLaws.{falls_never, never_fall}
 use Rattle.arimaa_outside.proofs.Lemmas.ToldLaws.{told_nothing, told_twice, told_both}
-use Rattle.arimaa_match.specs.Parts.{Between, BrokeOff, Coming, Lines, Part, Scene, TookPlace, Went, WentSo, after_lines, and_lines, and_then, continued, done, going_on, joined, no_lines}
+use Rattle.arimaa_match.specs.Parts.{Between, BrokeOff, Coming, Lines, Part, Scene, TookPlace, Went, WentSo, after_lines, and_lines, and_then, continuation, value_part, going_on, and_coming, no_lines}
 
-pub joined_assoc : (a b c : Coming) → joined (joined a b) c ≡ joined a (joined b c)
+pub joined_assoc : (a b c : Coming) → and_coming (and_coming a b) c ≡ and_coming a (and_coming b c)
 joined_assoc a b c =
     ap (λ gold. record {
       gold = gold;
@@ -66,7 +66,7 @@ between_none s = record {
 }
 
 pub between_both : (old mid new : Scene) (h k : Coming) (l m : Lines) → Between old mid h l
-    → Between mid new k m → Between old new (joined h k) (and_lines l m)
+    → Between mid new k m → Between old new (and_coming h k) (and_lines l m)
 between_both old mid new h k l m a b = record {
   gold_answers = told_both _ _ _ _ _ a.gold_answers b.gold_answers;
   silver_answers = told_both _ _ _ _ _ a.silver_answers b.silver_answers;
@@ -88,7 +88,7 @@ not_begun part s = record {
 }
 
 -- nothing took place
-took_none : {X : Type 0} (x : X) (s : Scene) → TookPlace (done x) s s x
+took_none : {X : Type 0} (x : X) (s : Scene) → TookPlace (value_part x) s s x
 took_none x s = record {
   heard = record { gold = []; silver = []; moments = [] };
   lines = no_lines;
@@ -100,12 +100,12 @@ place_both : {X Y : Type 0} (first : Part X) (later : X → Part Y) (old mid new
     (y : Y) → TookPlace first old mid x → TookPlace (later x) mid new y
     → TookPlace (and_then first later) old new y
 place_both first later old mid new x y a b = record {
-  heard = joined a.heard b.heard;
+  heard = and_coming a.heard b.heard;
   lines = and_lines a.lines b.lines;
   between = between_both _ _ _ _ _ _ _ a.between b.between;
   agrees = λ rest.
-      ap (λ coming. continued later (first coming)) (joined_assoc a.heard b.heard rest)
-      ∙ ap (continued later) (a.agrees (joined b.heard rest))
+      ap (λ coming. continuation later (first coming)) (joined_assoc a.heard b.heard rest)
+      ∙ ap (continuation later) (a.agrees (and_coming b.heard rest))
       ∙ ap (after_lines a.lines) (b.agrees rest);
 }
 
@@ -113,11 +113,11 @@ off_both : {X Y : Type 0} (first : Part X) (later : X → Part Y) (old mid new :
     → TookPlace first old mid x → BrokeOff (later x) mid new
     → BrokeOff (and_then first later) old new
 off_both first later old mid new x a b = record {
-  heard = joined a.heard b.heard;
+  heard = and_coming a.heard b.heard;
   lines = and_lines a.lines b.lines;
   rest = b.rest;
   between = between_both _ _ _ _ _ _ _ a.between b.between;
-  begins = ap (λ ran. (continued later ran).lines) (a.agrees b.heard)
+  begins = ap (λ ran. (continuation later ran).lines) (a.agrees b.heard)
       ∙ ap (and_lines a.lines) b.begins ∙ sym (lines_assoc a.lines b.lines b.rest);
 }
 
@@ -158,7 +158,7 @@ pub went_nowhere : {X : Type 0} (part : Part X) {s : Scene} {e : AllocError}
 went_nowhere part {s} = record { so = not_begun part s }
 
 -- nothing was to be done
-pub went_done : {X : Type 0} {x : X} {s : Scene} → Went (done x) s s (Ok x)
+pub went_done : {X : Type 0} {x : X} {s : Scene} → Went (value_part x) s s (Ok x)
 went_done {X} {x} {s} = record { so = took_none x s }
 
 -- the same part under another name of its result

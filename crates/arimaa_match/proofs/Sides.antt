@@ -12,7 +12,7 @@ use Rattle.arimaa_engine.specs.declared.fault.EngineFault.TheVariants as fault
 use Rattle.arimaa_engine.specs.Exchange.{Exchange, Told, TookPlaceOrBroke}
 use Rattle.arimaa_engine.specs.Exchange as engine
 use Rattle.arimaa_match.specs.declared.side_fault.SideFault.{SideFault}
-use Rattle.arimaa_match.specs.Parts.{BrokeOff, PortView, TookPlace, Went, WentSo, of_side, scene_of, stopped, with_engine, with_gold, with_silver, with_value}
+use Rattle.arimaa_match.specs.Parts.{BrokeOff, PortView, TookPlace, Went, WentSo, of_side, scene_of, outcome_of_call, with_engine, with_gold, with_silver, with_value}
 use Rattle.arimaa_match.proofs.Parts.{tells_none}
 
 gold_took : {X : Type 0} (exchange : Exchange X) (old new silver : PortView)
@@ -98,7 +98,7 @@ by_outcome : {X : Type 0} {exchange : Exchange X} {old new : Told} (side : Color
     (So : Result (Result X SideFault) AllocError → Type 0)
     → ((r : Result X EngineFault) → engine.TookPlace exchange old new r → So (Ok (of_side side r)))
     → (engine.BrokeOff exchange old new → So (Err alloc_error))
-    → (r : Result X EngineFault) → TookPlaceOrBroke exchange old new r → So (stopped side r)
+    → (r : Result X EngineFault) → TookPlaceOrBroke exchange old new r → So (outcome_of_call side r)
 by_outcome side So took off (Ok x) a = took (Ok x) a
 by_outcome side So took off (Err fault.Failed) a = took (Err fault.Failed) a
 by_outcome side So took off (Err fault.Ended) a = took (Err fault.Ended) a
@@ -111,7 +111,7 @@ by_outcome side So took off (Err fault.Memory) a = off a
 pub with_gold_went : {X : Type 0} {exchange : Exchange X} {old new : PortView}
     {r : Result X EngineFault} (silver : PortView) (given : Option (List ℕ))
     → NeverFall old.counts new.counts → engine.Went exchange old.told new.told r
-    → Went (with_engine Gold exchange) (scene_of old silver given) (scene_of new silver given) (stopped Gold r)
+    → Went (with_engine Gold exchange) (scene_of old silver given) (scene_of new silver given) (outcome_of_call Gold r)
 with_gold_went {X} {exchange} {old} {new} {r} silver given n a = record {
   so = by_outcome Gold
       (WentSo (with_engine Gold exchange) (scene_of old silver given) (scene_of new silver given))
@@ -123,7 +123,7 @@ with_gold_went {X} {exchange} {old} {new} {r} silver given n a = record {
 pub with_silver_went : {X : Type 0} {exchange : Exchange X} {old new : PortView}
     {r : Result X EngineFault} (gold : PortView) (given : Option (List ℕ))
     → NeverFall old.counts new.counts → engine.Went exchange old.told new.told r
-    → Went (with_engine Silver exchange) (scene_of gold old given) (scene_of gold new given) (stopped Silver r)
+    → Went (with_engine Silver exchange) (scene_of gold old given) (scene_of gold new given) (outcome_of_call Silver r)
 with_silver_went {X} {exchange} {old} {new} {r} gold given n a = record {
   so = by_outcome Silver
       (WentSo (with_engine Silver exchange) (scene_of gold old given) (scene_of gold new given))
@@ -133,7 +133,7 @@ with_silver_went {X} {exchange} {old} {new} {r} gold given n a = record {
 
 -- the value of an exchange stays beside what stops it
 pub stopped_with_value : {X Y : Type 0} (side : Color) (x : X) (r : Result Y EngineFault)
-    → with_value x (stopped side r) ≡ stopped side (engine.valued x r)
+    → with_value x (outcome_of_call side r) ≡ outcome_of_call side (engine.value_unless_fault x r)
 stopped_with_value side x (Ok y) = refl
 stopped_with_value side x (Err fault.Failed) = refl
 stopped_with_value side x (Err fault.Ended) = refl

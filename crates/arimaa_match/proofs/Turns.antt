@@ -8,7 +8,7 @@ use Rattle.arimaa_match.specs.declared.ending.MatchEnd.{MatchEnd}
 use Rattle.arimaa_match.specs.declared.ending.MatchEnd.TheVariants as end
 use Rattle.arimaa_match.specs.declared.ending.Verdict.{Verdict}
 use Rattle.arimaa_match.specs.Match.{Finished, Thought, Turned, after_ruling, after_turn, after_verdict, ended_by, playing, thinking, turn, turned_as}
-use Rattle.arimaa_match.specs.Parts.{Between, BrokeOff, Coming, Lines, Part, Scene, TookPlace, Went, WentSo, after_lines, and_lines, and_then, continued, done, joined, no_lines}
+use Rattle.arimaa_match.specs.Parts.{Between, BrokeOff, Coming, Lines, Part, Scene, TookPlace, Went, WentSo, after_lines, and_lines, and_then, continuation, value_part, and_coming, no_lines}
 use Rattle.arimaa_match.specs.Thoughts.{thought}
 use Rattle.arimaa_match.specs.MatchState.{HasRuled, MatchState, broken_off, ruling}
 use Rattle.arimaa_match.proofs.Parts.{between_both, between_none, joined_assoc, lines_assoc, went_done, went_nowhere, went_off, went_on}
@@ -22,7 +22,7 @@ went_to {X} {part} {old} {new} a same = subst (λ (x : X). Went part old new (Ok
 pub broke_off : (s t : MatchState) (fault : SideFault) {scene : Scene}
     (r : Result (Option MatchEnd) AllocError) → OnOk r (t ≡ broken_off s)
     → IfOk r (λ how. how ≡ Some (end.Engine fault.side fault.fault))
-    → Went (done (ended_by s fault)) scene scene (turned_as t r)
+    → Went (value_part (ended_by s fault)) scene scene (turned_as t r)
 broke_off s t fault (Ok how) state ended =
     went_to went_done
     (ap (λ state. record { state = state; end = Some (end.Engine fault.side fault.fault) })
@@ -53,7 +53,7 @@ pub record Leads {X : Type 0} (whole rest : Part X) (old now : Scene) : Type 0 w
   pub heard : Coming
   pub lines : Lines
   pub between : Between old now heard lines
-  pub leads : (later : Coming) → whole (joined heard later) ≡ after_lines lines (rest later)
+  pub leads : (later : Coming) → whole (and_coming heard later) ≡ after_lines lines (rest later)
 
 pub leads_none : {X : Type 0} (part : Part X) (s : Scene) → Leads part part s s
 leads_none part s = record {
@@ -68,12 +68,12 @@ leads_on : {X Y : Type 0} (whole : Part Y) (first : Part X) (later : X → Part 
     (old mid new : Scene) (x : X) → Leads whole (and_then first later) old mid
     → TookPlace first mid new x → Leads whole (later x) old new
 leads_on whole first later old mid new x a b = record {
-  heard = joined a.heard b.heard;
+  heard = and_coming a.heard b.heard;
   lines = and_lines a.lines b.lines;
   between = between_both _ _ _ _ _ _ _ a.between b.between;
   leads = λ rest.
-      ap whole (joined_assoc a.heard b.heard rest) ∙ a.leads (joined b.heard rest)
-      ∙ ap (λ ran. after_lines a.lines (continued later ran)) (b.agrees rest)
+      ap whole (joined_assoc a.heard b.heard rest) ∙ a.leads (and_coming b.heard rest)
+      ∙ ap (λ ran. after_lines a.lines (continuation later ran)) (b.agrees rest)
       ∙ ap (λ lines.
       record { value = (later x rest).value; left = (later x rest).left; lines = lines })
       (sym (lines_assoc a.lines b.lines (later x rest).lines));
@@ -82,17 +82,17 @@ leads_on whole first later old mid new x a b = record {
 place_end : {X : Type 0} (whole rest : Part X) (old mid new : Scene) (x : X)
     → Leads whole rest old mid → TookPlace rest mid new x → TookPlace whole old new x
 place_end whole rest old mid new x a b = record {
-  heard = joined a.heard b.heard;
+  heard = and_coming a.heard b.heard;
   lines = and_lines a.lines b.lines;
   between = between_both _ _ _ _ _ _ _ a.between b.between;
-  agrees = λ later. ap whole (joined_assoc a.heard b.heard later) ∙ a.leads (joined b.heard later)
+  agrees = λ later. ap whole (joined_assoc a.heard b.heard later) ∙ a.leads (and_coming b.heard later)
       ∙ ap (after_lines a.lines) (b.agrees later);
 }
 
 off_end : {X : Type 0} (whole rest : Part X) (old mid new : Scene) → Leads whole rest old mid
     → BrokeOff rest mid new → BrokeOff whole old new
 off_end whole rest old mid new a b = record {
-  heard = joined a.heard b.heard;
+  heard = and_coming a.heard b.heard;
   lines = and_lines a.lines b.lines;
   rest = b.rest;
   between = between_both _ _ _ _ _ _ _ a.between b.between;
@@ -116,7 +116,7 @@ one_more : (n : ℕ) (s : MatchState)
 unfolding playing
 one_more n s = refl
 
-none_more : (s : MatchState) → playing 0 s ≡ done (record { final = s; how = end.Limit })
+none_more : (s : MatchState) → playing 0 s ≡ value_part (record { final = s; how = end.Limit })
 unfolding playing
 none_more s = refl
 

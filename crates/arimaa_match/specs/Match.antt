@@ -3,7 +3,7 @@ use Rattle.std.specs.Prelude.{◌≡◌, ℕ, zero, suc, ◌-◌, List, Bool, tr
 use Rattle.arimaa_board.specs.declared.piece.Color.{Color}
 use Rattle.arimaa_board.specs.declared.piece.Color.TheVariants.{Gold, Silver}
 use Rattle.arimaa_board.specs.Board.{same_color}
-use Rattle.arimaa_aei.specs.Answers.{spoken}
+use Rattle.arimaa_aei.specs.Answers.{speech_of_line}
 use Rattle.arimaa_aei.specs.declared.command.Command.{Command}
 use Rattle.arimaa_aei.specs.declared.command.Command.TheVariants as command
 use Rattle.arimaa_aei.specs.declared.command.OptionName.TheVariants as option
@@ -19,7 +19,7 @@ use Rattle.std.specs.declared.alloc.AllocError.{AllocError}
 use Rattle.arimaa_engine.specs.Talk.{Talk}
 use Rattle.arimaa_match.specs.declared.ending.MatchDone.{MatchDone}
 use Rattle.arimaa_match.specs.declared.side_fault.SideFault.{SideFault}
-use Rattle.arimaa_match.specs.Parts.{IsNoMemory, Part, Scene, and_then, counts_at, done, if_fine, timing, with_engine}
+use Rattle.arimaa_match.specs.Parts.{IsNoMemory, Part, Scene, and_then, counts_at, value_part, if_fine, timing, with_engine}
 use Rattle.arimaa_match.specs.MatchState.{MatchState, Ruling, before_match, broken_off, ruling, side_due}
 
 -- a side's engine is told both reserves, in whole seconds
@@ -39,7 +39,7 @@ asking_timed side =
     and_then timing (λ before.
     if_fine (with_engine side asking) (λ line.
     and_then timing (λ after.
-    done (Ok (record { used = after - before; line = line })))))
+    value_part (Ok (record { used = after - before; line = line })))))
 
 -- a side thinks: it is told both reserves and asked
 unfoldable pub thinking : Color → ℕ → ℕ → Part (Result Thought SideFault)
@@ -66,10 +66,10 @@ after_announcing s (Err fault) = ended_by s fault
 -- the end of a turn by the verdict on the side's answer
 abbrev pub after_verdict : MatchState → Verdict → Part Turned
 after_verdict s (verdict.Won winner cause) =
-    done (record { state = s; end = Some (end.Won winner cause) })
-after_verdict s verdict.Limit = done (record { state = s; end = Some end.Limit })
+    value_part (record { state = s; end = Some (end.Won winner cause) })
+after_verdict s verdict.Limit = value_part (record { state = s; end = Some end.Limit })
 after_verdict s (verdict.Moved made) =
-    and_then (announcing made) (λ told. done (after_announcing s told))
+    and_then (announcing made) (λ told. value_part (after_announcing s told))
 
 -- what follows on a ruling
 abbrev pub after_ruling : Ruling → Part Turned
@@ -77,8 +77,8 @@ after_ruling r = after_verdict r.state r.verdict
 
 -- what follows on what a side thought: the answer is ruled on, or the fault ends the match
 abbrev pub after_thinking : MatchState → Result Thought SideFault → Part Turned
-after_thinking s (Err fault) = done (ended_by s fault)
-after_thinking s (Ok t) = after_ruling (ruling s t.used (text_of_move (spoken t.line)))
+after_thinking s (Err fault) = value_part (ended_by s fault)
+after_thinking s (Ok t) = after_ruling (ruling s t.used (text_of_move (speech_of_line t.line)))
 
 -- one setup or turn of the side that is due
 unfoldable pub turn : MatchState → Part Turned
@@ -94,11 +94,11 @@ pub record Finished : Type 0 where
 -- what follows on a turn by how it has ended the match, if it has
 abbrev pub after_turn : (MatchState → Part Finished) → MatchState → Option MatchEnd → Part Finished
 after_turn later s None = later s
-after_turn later s (Some how) = done (record { final = s; how = how })
+after_turn later s (Some how) = value_part (record { final = s; how = how })
 
 -- the setups and turns from a state on, where so many may come
 unfoldable pub playing : ℕ → MatchState → Part Finished
-playing zero s = done (record { final = s; how = end.Limit })
+playing zero s = value_part (record { final = s; how = end.Limit })
 playing (suc n) s = and_then (turn s) (λ t. after_turn (playing n) t.state t.end)
 
 -- whether the session of a side is broken at such an end
@@ -131,8 +131,8 @@ IfEndsByFault before now how = IfSome how (IfEngineFault before now)
 
 -- a session is ended, unless it is broken; a fault changes nothing
 abbrev pub quitting : Color → Bool → Part (Unit {0})
-quitting side true = done tt
-quitting side false = and_then (with_engine side (telling command.Quit)) (λ _. done tt)
+quitting side true = value_part tt
+quitting side false = and_then (with_engine side (telling command.Quit)) (λ _. value_part tt)
 
 -- each session that is not broken is ended, Gold's first
 abbrev pub quitting_both : MatchEnd → Part (Unit {0})
@@ -148,7 +148,7 @@ left_by f = record { written = f.final.lines; ending = f.how; log = f.final.log 
 unfoldable pub match_of : Control → Part MatchDone
 match_of control =
     and_then (playing 100002 (before_match control))
-    (λ f. and_then (quitting_both f.how) (λ _. done (left_by f)))
+    (λ f. and_then (quitting_both f.how) (λ _. value_part (left_by f)))
 
 -- a turn that came to this, at this state
 abbrev pub turned_as : MatchState → Result (Option MatchEnd) AllocError → Result Turned AllocError

@@ -34,7 +34,7 @@ use Rattle.arimaa_time.specs.declared.control.Control.{Control}
 use Rattle.arimaa_time.specs.declared.control.GameLimit.{GameLimit}
 use Rattle.arimaa_time.specs.declared.control.GameLimit.TheVariants as limit
 use Rattle.arimaa_clock.specs.ClockState.{Standing}
-use Rattle.arimaa_clock.specs.Account.{answer_of, booked, opened}
+use Rattle.arimaa_clock.specs.Account.{answer_of, account_once_booked, new_account}
 use Rattle.arimaa_clock.specs.declared.account.Spend.{Spend}
 use Rattle.arimaa_clock.specs.declared.account.Spend.TheVariants as spend
 use Rattle.arimaa_outside.specs.Counts.{capped_sum}
@@ -68,8 +68,8 @@ turn_labels lines = fold labels_with [] lines
 abbrev pub before_match : Control → MatchState
 before_match c = record {
   control = c;
-  gold_account = opened c;
-  silver_account = opened c;
+  gold_account = new_account c;
+  silver_account = new_account c;
   game = before_lines;
   lines = [];
   log = [];
@@ -94,8 +94,8 @@ abbrev pub broken_off : MatchState → MatchState
 broken_off s = with_last_line s (line.Bare s.game.due.number s.game.due.side)
 
 -- the side that is due loses by a word
-abbrev pub closed : MatchState → Word → MatchState
-closed s w = with_last_line s (line.Closing s.game.due.number s.game.due.side w)
+abbrev pub loss_by_word : MatchState → Word → MatchState
+loss_by_word s w = with_last_line s (line.Closing s.game.due.number s.game.due.side w)
 
 -- the side that is due resigns
 abbrev pub is_resignation : List ℕ → Bool
@@ -160,11 +160,11 @@ command_of (Moves noted) = command.MakeMove noted
 
 -- the account of the side that is due is spent
 abbrev pub spent_by : Color → MatchState → ℕ → MatchState
-spent_by Gold s used = record s { gold_account = booked s.gold_account used }
-spent_by Silver s used = record s { silver_account = booked s.silver_account used }
+spent_by Gold s used = record s { gold_account = account_once_booked s.gold_account used }
+spent_by Silver s used = record s { silver_account = account_once_booked s.silver_account used }
 
-abbrev pub spent : MatchState → ℕ → MatchState
-spent s used = spent_by (side_due s) s used
+abbrev pub with_time_spent : MatchState → ℕ → MatchState
+with_time_spent s used = spent_by (side_due s) s used
 
 -- the time that the side that is due used, with its reserve
 abbrev pub booked_now : MatchState → ℕ → Booked
@@ -176,8 +176,8 @@ booked_now s used = record {
 
 -- the time that the side that is due used is logged, with its reserve; the sum ends at the last
 -- number of 64 bits
-abbrev pub logged : MatchState → ℕ → MatchState
-logged s used = record s {
+abbrev pub with_time_logged : MatchState → ℕ → MatchState
+with_time_logged s used = record s {
   log = s.log ++ booked_now s used ∷ [];
   used = capped_sum s.used used;
 }
@@ -234,23 +234,23 @@ booking s told = after_booking s told (ending s.game.history)
 abbrev pub ruling_of : MatchState → ℕ → Option Made → Ruling
 ruling_of s used None = lost_by s (broken_off s) cause.Illegal
 ruling_of s used (Some made) =
-    booking (with_line (logged s used) (line_of s made)) (command_of made)
+    booking (with_line (with_time_logged s used) (line_of s made)) (command_of made)
 
 -- what is ruled on an answer in time: a resignation comes first
 abbrev pub in_time : MatchState → ℕ → List ℕ → Ruling
 in_time s used words =
-    if is_resignation words then lost_by s (closed s word.Resigns) cause.Resign
+    if is_resignation words then lost_by s (loss_by_word s word.Resigns) cause.Resign
     else ruling_of s used (made_by s words)
 
 -- what is ruled once the account was spent
 abbrev pub ruling_after : MatchState → ℕ → List ℕ → Spend → Ruling
-ruling_after s used words spend.Out = lost_by s (closed s word.Time) cause.Time
+ruling_after s used words spend.Out = lost_by s (loss_by_word s word.Time) cause.Time
 ruling_after s used words (spend.Kept reserve) = in_time s used words
 
 -- what is ruled on an answer of the side that is due, after this time: its account is spent first
 unfoldable pub ruling : MatchState → ℕ → List ℕ → Ruling
 ruling s used words =
-    ruling_after (spent s used) used words (answer_of (account_of s (side_due s)) used)
+    ruling_after (with_time_spent s used) used words (answer_of (account_of s (side_due s)) used)
 
 -- a call has ruled so, unless it ran out of memory
 abbrev pub HasRuled : Ruling → MatchState → Result Verdict AllocError → Type 0

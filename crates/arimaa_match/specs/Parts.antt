@@ -12,7 +12,7 @@ use Rattle.arimaa_engine.specs.declared.fault.EngineFault.{EngineFault}
 use Rattle.arimaa_engine.specs.declared.fault.EngineFault.TheVariants as fault
 use Rattle.arimaa_engine.specs.Faults.{IsCause}
 use Rattle.arimaa_engine.specs.Talk.{Talk}
-use Rattle.arimaa_engine.specs.Exchange.{Exchange, Told, told}
+use Rattle.arimaa_engine.specs.Exchange.{Exchange, Told, told_by}
 use Rattle.arimaa_engine.specs.Exchange as engine
 use Rattle.arimaa_match.specs.declared.side_fault.SideFault.{SideFault}
 
@@ -32,8 +32,8 @@ abbrev pub no_lines : Lines
 no_lines = record { to_gold = []; to_silver = [] }
 
 -- these come, and then those
-abbrev pub joined : Coming → Coming → Coming
-joined a b = record {
+abbrev pub and_coming : Coming → Coming → Coming
+and_coming a b = record {
   gold = a.gold ++ b.gold;
   silver = a.silver ++ b.silver;
   moments = a.moments ++ b.moments;
@@ -55,16 +55,16 @@ abbrev pub Part : Type 0 → Type 0
 Part X = Coming → Ran X
 
 -- nothing happens, and this is the value
-abbrev pub done : {X : Type 0} → X → Part X
-done x coming = record { value = Some x; left = coming; lines = no_lines }
+abbrev pub value_part : {X : Type 0} → X → Part X
+value_part x coming = record { value = Some x; left = coming; lines = no_lines }
 
 -- the answers or moments end
-abbrev pub cut : {X : Type 0} → Part X
-cut coming = record { value = None; left = coming; lines = no_lines }
+abbrev pub out_of_answers : {X : Type 0} → Part X
+out_of_answers coming = record { value = None; left = coming; lines = no_lines }
 
 -- what follows on a value, if there is one
 abbrev pub going_on : {X Y : Type 0} → (X → Part Y) → Option X → Part Y
-going_on later None = cut
+going_on later None = out_of_answers
 going_on later (Some x) = later x
 
 -- these lines were sent before
@@ -73,18 +73,18 @@ after_lines lines ran =
     record { value = ran.value; left = ran.left; lines = and_lines lines ran.lines }
 
 -- what follows on a part that came to this
-abbrev pub continued : {X Y : Type 0} → (X → Part Y) → Ran X → Ran Y
-continued later ran = after_lines ran.lines (going_on later ran.value ran.left)
+abbrev pub continuation : {X Y : Type 0} → (X → Part Y) → Ran X → Ran Y
+continuation later ran = after_lines ran.lines (going_on later ran.value ran.left)
 
 -- one part, and then the one that its value leads to
 abbrev pub and_then : {X Y : Type 0} → Part X → (X → Part Y) → Part Y
-and_then first later coming = continued later (first coming)
+and_then first later coming = continuation later (first coming)
 
 -- what follows on an outcome that is no fault
 abbrev pub unless_fault : {X Y : Type 0} → (X → Part (Result Y SideFault)) → Result X SideFault
     → Part (Result Y SideFault)
 unless_fault later (Ok x) = later x
-unless_fault later (Err fault) = done (Err fault)
+unless_fault later (Err fault) = value_part (Err fault)
 
 -- one part, and unless it met a fault the one that its value leads to
 abbrev pub if_fine : {X Y : Type 0} → Part (Result X SideFault) → (X → Part (Result Y SideFault))
@@ -93,7 +93,7 @@ if_fine first later = and_then first (unless_fault later)
 
 -- the next moment of the clock
 abbrev pub moment_in : List ℕ → Part ℕ
-moment_in [] coming = cut coming
+moment_in [] coming = out_of_answers coming
 moment_in (m ∷ later) coming = record {
   value = Some m;
   left = record { gold = coming.gold; silver = coming.silver; moments = later };
@@ -143,7 +143,7 @@ pub record PortView : Type 0 where
 -- what a port tells and counts, by the words for it
 abbrev pub view_of : {P : Type 0} → (P → Option (List (List ℕ))) → (P → Option (List PortAnswer))
     → (P → Counts) → P → PortView
-view_of sent answers counts port = record { told = told sent answers port; counts = counts port }
+view_of sent answers counts port = record { told = told_by sent answers port; counts = counts port }
 
 -- what both ports tell and count, and what the clock tells
 pub record Scene : Type 0 where
@@ -186,7 +186,7 @@ pub record TookPlace {X : Type 0} (part : Part X) (old new : Scene) (value : X) 
   pub lines : Lines
   pub between : Between old new heard lines
   pub agrees : (later : Coming)
-      → part (joined heard later) ≡ record { value = Some value; left = later; lines = lines }
+      → part (and_coming heard later) ≡ record { value = Some value; left = later; lines = lines }
 
 -- a part was broken off: the lines that were sent are the first of those that the part sends by
 -- what was heard
@@ -223,15 +223,15 @@ pub record AreAfter {X P : Type 0} (r : Result X SideFault) (gold silver : Talk 
   pub silver_so : silver.broken ≡ is_broken_by Silver r
 
 -- what a call of a side's session comes to: want of memory stands apart
-abbrev pub stopped : {X : Type 0} → Color → Result X EngineFault
+abbrev pub outcome_of_call : {X : Type 0} → Color → Result X EngineFault
     → Result (Result X SideFault) AllocError
-stopped side (Ok x) = Ok (Ok x)
-stopped side (Err fault.Memory) = Err alloc_error
-stopped side (Err fault.Failed) = Ok (Err (record { side = side; fault = fault.Failed }))
-stopped side (Err fault.Ended) = Ok (Err (record { side = side; fault = fault.Ended }))
-stopped side (Err fault.Long) = Ok (Err (record { side = side; fault = fault.Long }))
-stopped side (Err fault.Silent) = Ok (Err (record { side = side; fault = fault.Silent }))
-stopped side (Err (fault.Version text)) =
+outcome_of_call side (Ok x) = Ok (Ok x)
+outcome_of_call side (Err fault.Memory) = Err alloc_error
+outcome_of_call side (Err fault.Failed) = Ok (Err (record { side = side; fault = fault.Failed }))
+outcome_of_call side (Err fault.Ended) = Ok (Err (record { side = side; fault = fault.Ended }))
+outcome_of_call side (Err fault.Long) = Ok (Err (record { side = side; fault = fault.Long }))
+outcome_of_call side (Err fault.Silent) = Ok (Err (record { side = side; fault = fault.Silent }))
+outcome_of_call side (Err (fault.Version text)) =
     Ok (Err (record { side = side; fault = fault.Version text }))
 
 -- this value in place of the one of a call that met no fault

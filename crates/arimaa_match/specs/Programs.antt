@@ -21,7 +21,7 @@ use Rattle.arimaa_match.specs.declared.ending.MatchEnd.{MatchEnd}
 use Rattle.arimaa_match.specs.declared.ending.MatchEnd.TheVariants as end
 use Rattle.arimaa_match.specs.declared.side_fault.SideFault.{SideFault}
 use Rattle.arimaa_match.specs.Match.{match_of, quitting}
-use Rattle.arimaa_match.specs.Parts.{IsNoMemory, Part, Went, and_then, done, scene_of, view_of, with_engine}
+use Rattle.arimaa_match.specs.Parts.{IsNoMemory, Part, Went, and_then, value_part, scene_of, view_of, with_engine}
 
 -- no match has begun, because of a side's fault
 abbrev pub unbegun : Color → EngineFault → MatchDone
@@ -31,7 +31,8 @@ unbegun side why = record { written = []; ending = end.Engine side why; log = []
 -- Gold's is ended
 abbrev pub after_silver : Control → Result (Unit {0}) SideFault → Part MatchDone
 after_silver control (Ok _) = match_of control
-after_silver control (Err f) = and_then (quitting Gold false) (λ _. done (unbegun f.side f.fault))
+after_silver control (Err f) =
+    and_then (quitting Gold false) (λ _. value_part (unbegun f.side f.fault))
 
 -- Silver's session is opened, once Gold's is open
 abbrev pub opening_silver : Control → Part MatchDone
@@ -40,7 +41,7 @@ opening_silver control = and_then (with_engine Silver (opening control)) (after_
 -- what follows once Gold's session was to be opened
 abbrev pub after_gold : Control → Result (Unit {0}) SideFault → Part MatchDone
 after_gold control (Ok _) = opening_silver control
-after_gold control (Err f) = done (unbegun f.side f.fault)
+after_gold control (Err f) = value_part (unbegun f.side f.fault)
 
 -- a match between two programs that were started: Gold's session is opened, then Silver's
 unfoldable pub match_of_programs : Control → Part MatchDone

@@ -5,7 +5,7 @@ ghost use Rattle.arimaa_outside.specs.Counts.{NeverFall};
 ghost use Rattle.arimaa_time.specs.declared.control.Control.{Control as TimeControl};
 ghost use Rattle.arimaa_engine.specs.Session.{opening};
 ghost use Rattle.arimaa_match.specs.Match.{IfEngineFault};
-ghost use Rattle.arimaa_match.specs.Parts.{Scene, Went, scene_of, stopped, view_of, with_engine};
+ghost use Rattle.arimaa_match.specs.Parts.{Scene, Went, scene_of, outcome_of_call, view_of, with_engine};
 ghost use Rattle.arimaa_match.specs.Records.{IsAcceptedMatch};
 ghost use Rattle.arimaa_match.specs.Texts.{HasEnded};
 ghost use Rattle.arimaa_match.specs.Programs.{HasSpawnerCause, ProgramsWent, match_of_programs, opening_silver, spawned_of, unbegun, unopened, unstarted};
@@ -71,7 +71,7 @@ fn give_up<P: Port>(alloc: Global, gold: Session<P>, silver: P, fault: EngineFau
         → Went (with_engine Silver (opening control)) old
         (scene_of (view_of P.sent P.answers P.counts gold.port)
         (view_of P.sent P.answers P.counts silver) given)
-        (stopped Silver (Err fault))
+        (outcome_of_call Silver (Err fault))
         → Went (opening_silver control) old
         (scene_of (view_of P.sent P.answers P.counts result.gold)
         (view_of P.sent P.answers P.counts result.silver) given)

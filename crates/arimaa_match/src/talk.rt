@@ -1,9 +1,9 @@
 //! What is said to the engines of a match, and heard of them.
 ghost use Rattle.std.specs.Prelude.{◌≡◌, ℕ, List, Option, IfOk};
-ghost use Rattle.arimaa_aei.specs.Answers.{spoken};
+ghost use Rattle.arimaa_aei.specs.Answers.{speech_of_line};
 ghost use Rattle.arimaa_engine.specs.Session.{asking, telling};
 ghost use Rattle.arimaa_engine.specs.Waits.{text_of_move};
-ghost use Rattle.arimaa_match.specs.Parts.{AreAfter, AreWhole, IfFault, Went, line_at, ports, scene, stopped, with_engine, with_value};
+ghost use Rattle.arimaa_match.specs.Parts.{AreAfter, AreWhole, IfFault, Went, line_at, ports, scene, outcome_of_call, with_engine, with_value};
 
 use crate::side_fault::SideFault;
 use arimaa_aei::Command;
@@ -17,7 +17,7 @@ pub(crate) fn stopped(
     side: Color,
     told: Result<(), EngineFault>,
 ) -> Result<Result<(), SideFault>, AllocError>
-    ensures { result ≡ stopped side told }
+    ensures { result ≡ outcome_of_call side told }
 {
     match told {
         Ok(()) => Ok(Ok(())),
@@ -110,7 +110,7 @@ pub(crate) fn words<'a, P: Port>(
     silver: &'a Session<P>,
     side: Color,
 ) -> &'a [u8]
-    ensures { result.now ≡ text_of_move (spoken (line_at side gold.now silver.now)) }
+    ensures { result.now ≡ text_of_move (speech_of_line (line_at side gold.now silver.now)) }
 {
     match side {
         Color::Gold => gold.words(),

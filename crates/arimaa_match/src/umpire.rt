@@ -3,7 +3,7 @@ ghost use Rattle.std.specs.Prelude.{◌≡◌, true, OnOk};
 ghost use Rattle.std.specs.Str.{bytes_eq};
 ghost use Rattle.arimaa_clock.specs.Account.{answer_of};
 ghost use Rattle.arimaa_judge.specs.RecordState.{is_playing};
-ghost use Rattle.arimaa_match.specs.MatchState.{HasRuled, Places, account_of, before_match, booking, broken_off, closed, in_time, is_over, is_over_limit, is_resignation, line_of, logged, lost_by, made_by, ruling, ruling_of, side_due, spent, turn_written, unless_over, with_line};
+ghost use Rattle.arimaa_match.specs.MatchState.{HasRuled, Places, account_of, before_match, booking, broken_off, loss_by_word, in_time, is_over, is_over_limit, is_resignation, line_of, with_time_logged, lost_by, made_by, ruling, ruling_of, side_due, with_time_spent, turn_written, unless_over, with_line};
 ghost use Rattle.arimaa_match.specs.Phases.{IsPlaced};
 
 use crate::ending::{MatchCause, Verdict};
@@ -158,7 +158,7 @@ impl Umpire {
     // Spends the account of the side that is due.
     fn spend(&mut self, used: u64) -> Spend
         ensures answer { result ≡ answer_of (account_of self.old (side_due self.old)) used }
-        ensures spent { self.new ≡ spent self.old used }
+        ensures spent { self.new ≡ with_time_spent self.old used }
     {
         match self.due.side {
             Color::Gold => self.gold_account.spend(used),
@@ -179,7 +179,7 @@ impl Umpire {
     // The side that is due loses by a word.
     #[tactic(auto, using(crate::proofs::TurnLabels::labels_closing))]
     fn lose(&mut self, word: Word, cause: MatchCause) -> Result<Verdict, AllocError>
-        ensures { HasRuled (lost_by self.old (closed self.old word) cause) self.new result }
+        ensures { HasRuled (lost_by self.old (loss_by_word self.old word) cause) self.new result }
     {
         let Label { number, side } = self.due;
         let line = RecordLine::Closing { number, side, word };
@@ -245,7 +245,7 @@ impl Umpire {
 
     // Logs the time of what is booked.
     fn log_time(&mut self, used: u64) -> Result<(), AllocError>
-        ensures { OnOk result (self.new ≡ logged self.old used) }
+        ensures { OnOk result (self.new ≡ with_time_logged self.old used) }
     {
         let side = self.due.side;
         let reserve = self.reserve();
@@ -266,7 +266,7 @@ impl Umpire {
     // Books a setup, which brings the game to this phase.
     fn book_setup(&mut self, used: u64, phase: Phase, setup: Setup) -> Result<Verdict, AllocError>
         requires { IsPlaced self.old.game setup phase }
-        ensures { HasRuled (booking (with_line (logged self.old used) (line_of self.old
+        ensures { HasRuled (booking (with_line (with_time_logged self.old used) (line_of self.old
             (Places setup)))
             (Command.MakeSetup setup)) self.new result }
     {
@@ -301,7 +301,7 @@ impl Umpire {
     // Books a turn that the game has made already.
     fn book_turn(&mut self, used: u64, marked: Noted) -> Result<Verdict, AllocError>
         requires { is_playing self.old.game ≡ true }
-        ensures { HasRuled (booking (turn_written (logged self.old used) marked)
+        ensures { HasRuled (booking (turn_written (with_time_logged self.old used) marked)
             (Command.MakeMove marked)) self.new result }
     {
         match self.log_time(used) {

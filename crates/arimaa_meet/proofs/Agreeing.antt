@@ -7,7 +7,7 @@ use Rattle.arimaa_record.specs.Written.{text_of_record}
 use Rattle.arimaa_record.proofs.Lemmas.FormLaws.{head_same, tail_same}
 use Rattle.arimaa_match.specs.declared.ending.MatchDone.{MatchDone}
 use Rattle.arimaa_match.specs.Laws.{ToldOnce}
-use Rattle.arimaa_match.specs.Parts.{Coming, Ran, joined}
+use Rattle.arimaa_match.specs.Parts.{Coming, Ran, and_coming}
 use Rattle.arimaa_match.specs.Programs.{match_of_programs}
 use Rattle.arimaa_meet.specs.Agreement.{AreJudged, MatchesAgree, ReportsAgree}
 use Rattle.arimaa_meet.specs.Matches.{MeetMatch}
@@ -18,7 +18,7 @@ matches_agree once control old new other_old other_new heard lines other_lines a
     let nothing : Coming = record { gold = []; silver = []; moments = [] } in
     let first : played.heard ≡ heard = (once old new played.heard heard played.lines lines tells played.between between).0 in
     let second : other.heard ≡ heard = (once other_old other_new other.heard heard other.lines other_lines other_tells other.between other_between).0 in
-    let value : Coming → Option MatchDone = λ (c : Coming). (match_of_programs control (joined c nothing)).value in
+    let value : Coming → Option MatchDone = λ (c : Coming). (match_of_programs control (and_coming c nothing)).value in
     let one : value played.heard ≡ Some a = ap (λ (r : Ran MatchDone). r.value) (played.agrees nothing) in
     let two : value other.heard ≡ Some b = ap (λ (r : Ran MatchDone). r.value) (other.agrees nothing) in
     same_Some a b (sym one ∙ (ap value (first ∙ sym second) ∙ two))

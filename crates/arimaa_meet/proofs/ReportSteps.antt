@@ -11,7 +11,7 @@ use Rattle.arimaa_meet.specs.declared.pairs.Pair.{Pair}
 use Rattle.arimaa_meet.specs.declared.match_report.Told.{Told}
 use Rattle.arimaa_meet.specs.Matches.{IsJudgedMatch, MeetMatch}
 use Rattle.arimaa_meet.specs.Report.{line_of_pair, text_of_matches}
-use Rattle.arimaa_meet.specs.Scores.{counted}
+use Rattle.arimaa_meet.specs.Scores.{table_count}
 use Rattle.arimaa_meet.specs.Shares.{IsTold}
 
 -- one match more
@@ -61,15 +61,15 @@ text_more ms place m told before after within is was now =
 -- what the first matches count, and one more
 pub counted_more : (ms : List MeetMatch) (place : ℕ) (m : MeetMatch) (told : Told) (before after : List Counted)
     → place < length ms → IsTold (get_or ms place m) told
-    → before ≡ map counted (take place ms) → after ≡ before ++ told.counted ∷ []
-    → after ≡ map counted (take (place + 1) ms)
+    → before ≡ map table_count (take place ms) → after ≡ before ++ told.counted ∷ []
+    → after ≡ map table_count (take (place + 1) ms)
 counted_more ms place m told before after within is was now =
     let one : MeetMatch = get_or ms place m in
     now
     ∙ (ap (λ (l : List Counted). l ++ told.counted ∷ []) was
-    ∙ (ap (λ (c : Counted). map counted (take place ms) ++ c ∷ []) is.counted_so
-    ∙ (sym (map-append counted (take place ms) (one ∷ []))
-    ∙ ap (λ (l : List MeetMatch). map counted l) (sym (take_more ms place m within)))))
+    ∙ (ap (λ (c : Counted). map table_count (take place ms) ++ c ∷ []) is.counted_so
+    ∙ (sym (map-append table_count (take place ms) (one ∷ []))
+    ∙ ap (λ (l : List MeetMatch). map table_count l) (sym (take_more ms place m within)))))
 
 -- as many are told of as there are pairs
 pub told_as_many : (ms : List MeetMatch) (all : List Told) (pairs : List Pair) → AllZip IsTold ms all

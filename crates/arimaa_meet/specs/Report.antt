@@ -9,7 +9,7 @@ use Rattle.arimaa_meet.specs.declared.pairs.Pair.{Pair}
 use Rattle.arimaa_meet.specs.declared.table.Score.{Score}
 use Rattle.arimaa_meet.specs.Matches.{MeetMatch}
 use Rattle.arimaa_meet.specs.Pairs.{numbers}
-use Rattle.arimaa_meet.specs.Scores.{counted, score_of}
+use Rattle.arimaa_meet.specs.Scores.{table_count, score_of}
 
 -- the line before a match: its number, and those of its programs, Gold's first
 abbrev pub line_of_pair : ℕ → Pair → List ℕ
@@ -38,4 +38,4 @@ text_of_table programs matches =
 -- the report on the matches of so many programs: the matches, counted from 1, and then the table
 abbrev pub text_of_report : ℕ → List MeetMatch → List ℕ
 text_of_report programs matches =
-    text_of_matches 1 matches ++ text_of_table programs (map counted matches)
+    text_of_matches 1 matches ++ text_of_table programs (map table_count matches)

@@ -42,8 +42,8 @@ faulty_side (end.Won winner why) = None
 faulty_side end.Limit = None
 
 -- what a match counts in the table
-abbrev pub counted : MeetMatch → Counted
-counted m = record {
+abbrev pub table_count : MeetMatch → Counted
+table_count m = record {
   pair = m.pair;
   winner = winner_of m.judged m.done.ending;
   at_limit = is_at_limit m.done.ending;

@@ -9,13 +9,13 @@ use Rattle.arimaa_match.specs.Texts.{text_of_match}
 use Rattle.arimaa_meet.specs.declared.pairs.Pair.{Pair}
 use Rattle.arimaa_meet.specs.declared.match_report.Told.{Told}
 use Rattle.arimaa_meet.specs.Matches.{IsJudgedMatch, MeetMatch}
-use Rattle.arimaa_meet.specs.Scores.{counted}
+use Rattle.arimaa_meet.specs.Scores.{table_count}
 use Rattle.arimaa_meet.specs.Seats.{PlaysMatch, PlaysMatches, Seat, Terms}
 
 -- this is told of a match: its text and what it counts, and the judge says so of its record
 pub record IsTold (m : MeetMatch) (told : Told) : Type 0 where
   pub text : told.text.items ≡ text_of_match m.done
-  pub counted_so : told.counted ≡ counted m
+  pub counted_so : told.counted ≡ table_count m
   pub judged : IsJudgedMatch m
 
 -- the matches that are dealt to one of so many workers, where the first of these has this number:

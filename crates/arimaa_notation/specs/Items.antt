@@ -33,8 +33,8 @@ abbrev pub without_last_blanks : List ℕ → List ℕ
 without_last_blanks bytes = take (length bytes - suffix_len is_blank bytes) bytes
 
 -- a text without the blanks at its ends
-abbrev pub trimmed : List ℕ → List ℕ
-trimmed bytes = without_last_blanks (without_first_blanks bytes)
+abbrev pub without_outer_blanks : List ℕ → List ℕ
+without_outer_blanks bytes = without_last_blanks (without_first_blanks bytes)
 
 -- what stands before the first blank
 abbrev pub before_blank : List ℕ → List ℕ

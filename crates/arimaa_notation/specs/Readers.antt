@@ -101,14 +101,15 @@ entries_of (item ∷ items) = before_entries (entry_of item) (entries_of items)
 
 module _ {X : Type 0} (number : X → ℕ) where
   -- one more element, before the first whose number is not smaller
-  abbrev pub inserted : X → List X → List X
-  inserted x [] = x ∷ []
-  inserted x (y ∷ ys) = if nat_le (number x) (number y) then x ∷ y ∷ ys else y ∷ inserted x ys
+  abbrev pub with_element : X → List X → List X
+  with_element x [] = x ∷ []
+  with_element x (y ∷ ys) = if nat_le (number x) (number y) then x ∷ y ∷ ys
+      else y ∷ with_element x ys
 
   -- a list in the order of the elements' numbers
   abbrev pub in_order : List X → List X
   in_order [] = []
-  in_order (x ∷ xs) = inserted x (in_order xs)
+  in_order (x ∷ xs) = with_element x (in_order xs)
 
 -- whether entries in order of square are a setup of a side: its home squares, and its pieces
 unfoldable pub is_lineup : Color → List (ℕ × Piece) → Bool

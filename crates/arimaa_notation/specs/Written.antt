@@ -54,9 +54,9 @@ abbrev pub items_of_entries : List (ℕ × Piece) → List (List ℕ)
 items_of_entries es = map text_of_entry es
 
 -- items with one space between each two
-abbrev pub joined : List (List ℕ) → List ℕ
-joined [] = []
-joined (item ∷ items) = item ++ flat_map (λ i. 32 ∷ i) items
+abbrev pub items_text : List (List ℕ) → List ℕ
+items_text [] = []
+items_text (item ∷ items) = item ++ flat_map (λ i. 32 ∷ i) items
 
 -- a text with one more item at its end
 abbrev pub with_item : List ℕ → List ℕ → List ℕ
@@ -65,8 +65,8 @@ with_item (b ∷ bs) item = (b ∷ bs) ++ 32 ∷ item
 
 -- the written form of a turn
 abbrev pub text_of_turn : List NotedStep → List ℕ
-text_of_turn ns = joined (items_of_turn ns)
+text_of_turn ns = items_text (items_of_turn ns)
 
 -- the written form of a setup, in order of square
 abbrev pub text_of_setup : Lineup → List ℕ
-text_of_setup s = joined (items_of_entries s.pairs)
+text_of_setup s = items_text (items_of_entries s.pairs)

@@ -1,7 +1,7 @@
 //! Items of a text, which blanks separate.
 ghost use Rattle.std.specs.Prelude.{◌≡◌, ◌+◌, ◌≤◌, [], ◌∷◌, length, IfNone, IfSome};
 ghost use Rattle.std.specs.List.{prefix_len, suffix_len, position_or_len};
-ghost use Rattle.arimaa_notation.specs.Items.{is_blank, items_of, IsFirstItem, trimmed, without_first_blanks, word_of, after_word};
+ghost use Rattle.arimaa_notation.specs.Items.{is_blank, items_of, IsFirstItem, without_outer_blanks, without_first_blanks, word_of, after_word};
 
 /// Whether a byte is a blank: a space or a tab.
 pub fn is_blank(byte: u8) -> bool
@@ -47,7 +47,7 @@ pub fn trim_start(bytes: &[u8]) -> &[u8]
 
 /// A text without the blanks at its ends. A blank is a space or a tab.
 pub fn trim(bytes: &[u8]) -> &[u8]
-    ensures { result.now ≡ trimmed bytes.now }
+    ensures { result.now ≡ without_outer_blanks bytes.now }
 {
     let rest = trim_start(bytes);
     &rest[..rest.len() - blanks_after(rest)]

@@ -10,15 +10,15 @@ pub record Ticking : Type 0 where
   pub last : ℕ
 
 -- the clock once it gave its next moment, with the moments that it had left
-abbrev pub ticked : Ticking → List ℕ → Ticking
-ticked clock [] = record clock { repeats = min (clock.repeats + 1) (2 ^ 64 - 1) }
-ticked clock (next ∷ later) = record clock
+abbrev pub after_tick : Ticking → List ℕ → Ticking
+after_tick clock [] = record clock { repeats = min (clock.repeats + 1) (2 ^ 64 - 1) }
+after_tick clock (next ∷ later) = record clock
     { left = later; gave = clock.gave ++ next ∷ []; last = next }
 
 -- the clock once it gave its next moment: the first that it has left, or its last again where none
 -- is left
 abbrev pub after_moment : Ticking → Ticking
-after_moment clock = ticked clock clock.left
+after_moment clock = after_tick clock clock.left
 
 -- the moments that it gave, told until the count of the repeats is at its end
 abbrev pub moments_given : Ticking → Option (List ℕ)

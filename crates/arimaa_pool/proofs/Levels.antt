@@ -9,7 +9,7 @@ use Rattle.arimaa_board.specs.declared.piece.Color.{Color}
 use Rattle.arimaa_board.specs.declared.position.Position.{Position}
 use Rattle.arimaa_model.specs.Results.{stands_in, with_new, first_occurrences}
 use Rattle.arimaa_model.specs.Wins.{wins}
-use Rattle.arimaa_model.specs.Strategies.{after_entry, met, first_met, strategy_of, entry_of}
+use Rattle.arimaa_model.specs.Strategies.{after_entry, positions_met, first_met, strategy_of, entry_of}
 use Rattle.arimaa_forced.specs.Entries.{entry_with_marks}
 use Rattle.arimaa_model.proofs.Lemmas.Members.{In, In-flat_map, flat_map-In}
 use Rattle.arimaa_model.proofs.Lemmas.Positions.{In-stands, In-first, first-new}
@@ -49,7 +49,7 @@ none_new qs (p ∷ ps) each =
 
 module _ (a : Color) (barred : List Position) (n : ℕ) (p : Position) (won : wins a barred n p ≡ true) where
   abbrev M : ℕ → List Position
-  M k = met a barred n p k
+  M k = positions_met a barred n p k
 
   abbrev after : Position → List Position
   after x = after_entry a barred n x
@@ -105,7 +105,7 @@ module _ (a : Color) (barred : List Position) (n : ℕ) (p : Position) (won : wi
 
 module _ (t : Terms) (n : ℕ) (p : Position) (won : wins t.attacker t.barred n p ≡ true) where
   abbrev L : ℕ → List Position
-  L k = met t.attacker t.barred n p k
+  L k = positions_met t.attacker t.barred n p k
 
   abbrev then : Position → List Position
   then x = after_entry t.attacker t.barred n x

@@ -4,7 +4,7 @@ use Rattle.std.specs.List.{Contains}
 use Rattle.arimaa_board.specs.declared.piece.Color.{Color}
 use Rattle.arimaa_board.specs.declared.position.Position.{Position}
 use Rattle.arimaa_model.specs.Ranks.{IsRank, rank_within}
-use Rattle.arimaa_model.specs.Strategies.{entry_of, met, strategy_of}
+use Rattle.arimaa_model.specs.Strategies.{entry_of, positions_met, strategy_of}
 use Rattle.arimaa_model.proofs.Lemmas.Members.{In}
 use Rattle.arimaa_model.proofs.Lemmas.Meeting.{entry-position, entry-rank}
 use Rattle.arimaa_model.proofs.Lemmas.Ranking.{wins-le}
@@ -18,12 +18,12 @@ In-Contains x (y ∷ ys) (inl e) = (0, omega arith, sym e)
 In-Contains x (y ∷ ys) (inr i) = let deep = In-Contains x ys i in (suc deep.0, let inside = deep.1 in omega arith, deep.2)
 
 module _ (a : Color) (barred : List Position) (p : Position) (r : ℕ) (exact : IsRank a barred p r) where
-  entry-listed : (q : Position) → In q (met a barred r p r) → Contains (strategy_of a barred r p) (entry_of a barred r q)
+  entry-listed : (q : Position) → In q (positions_met a barred r p r) → Contains (strategy_of a barred r p) (entry_of a barred r q)
   unfolding strategy_of
-  entry-listed q i = In-Contains (entry_of a barred r q) (map (entry_of a barred r) (met a barred r p r)) (map-In (entry_of a barred r) q (met a barred r p r) i)
+  entry-listed q i = In-Contains (entry_of a barred r q) (map (entry_of a barred r) (positions_met a barred r p r)) (map-In (entry_of a barred r) q (positions_met a barred r p r) i)
 
   -- what is asked about a position that is met
-  pub met-need : (n : ℕ) → r ≤ n → (q : Position) → In q (met a barred r p r) → (x : Position) (j : ℕ) → IsAsked a barred q (rank_within a barred r q) x j → InNeed a barred p n x j
+  pub met-need : (n : ℕ) → r ≤ n → (q : Position) → In q (positions_met a barred r p r) → (x : Position) (j : ℕ) → IsAsked a barred q (rank_within a barred r q) x j → InNeed a barred p n x j
   met-need n within q i x j asked =
       let same = rank-same a barred p r n exact within in
       let at : IsAsked a barred (entry_of a barred r q).position (entry_of a barred r q).rank x j =

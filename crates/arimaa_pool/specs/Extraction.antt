@@ -3,7 +3,7 @@ use Rattle.std.specs.Prelude.{◌≡◌, ℕ, ◌≤◌, List, take, length}
 use Rattle.std.specs.List.{flat_map}
 use Rattle.arimaa_board.specs.declared.position.Position.{Position}
 use Rattle.arimaa_model.specs.Results.{first_occurrences}
-use Rattle.arimaa_model.specs.Strategies.{entry_of, after_entry, met}
+use Rattle.arimaa_model.specs.Strategies.{entry_of, after_entry, positions_met}
 use Rattle.arimaa_forced.specs.declared.entry.Entry.{Entry}
 use Rattle.arimaa_forced.specs.Entries.{entry_with_marks}
 use Rattle.arimaa_pool.specs.Terms.{Terms}
@@ -16,7 +16,7 @@ written_entry t n q = entry_with_marks (entry_of t.attacker t.barred n q)
 -- after the first k of that level
 pub record IsQueue (t : Terms) (n : ℕ) (p : Position) (k : ℕ) (queue : List Position) : Type 0 where
   pub level : ℕ
-  pub played : k ≤ length (met t.attacker t.barred n p level)
-  pub queue_is : queue ≡ first_occurrences (met t.attacker t.barred n p level)
+  pub played : k ≤ length (positions_met t.attacker t.barred n p level)
+  pub queue_is : queue ≡ first_occurrences (positions_met t.attacker t.barred n p level)
       (flat_map (after_entry t.attacker t.barred n)
-      (take k (met t.attacker t.barred n p level)))
+      (take k (positions_met t.attacker t.barred n p level)))

@@ -17,7 +17,7 @@ use Rattle.arimaa_board.proofs.Lemmas.TextLaws.{reading_of-text_of}
 use Rattle.arimaa_board.specs.declared.ending.Word.{Word}
 use Rattle.arimaa_board.specs.declared.ending.Word.TheVariants.{Resigns, Time}
 use Rattle.arimaa_notation.specs.Items.{is_blank, items_of}
-use Rattle.arimaa_notation.specs.Written.{items_of_turn, items_of_entries, joined, text_of_turn, text_of_setup}
+use Rattle.arimaa_notation.specs.Written.{items_of_turn, items_of_entries, items_text, text_of_turn, text_of_setup}
 use Rattle.arimaa_notation.specs.Grammar.{IsTurnText, IsSetupText, IsTurnReading, IsSetupReading}
 use Rattle.arimaa_notation.proofs.Lemmas.WrittenLaws.{size-lineup}
 use Rattle.arimaa_notation.proofs.Lemmas.ItemLaws.{items-item, items-blank, no_items}
@@ -25,11 +25,11 @@ use Rattle.arimaa_record.specs.declared.label.Label.{Label}
 use Rattle.arimaa_record.specs.declared.line.RecordLine.{RecordLine}
 use Rattle.arimaa_record.specs.declared.line.RecordLine.TheVariants as line
 use Rattle.arimaa_record.specs.Label.{side_of_letter, IsLabel, label_of, letter_of_side, text_of_label}
-use Rattle.arimaa_notation.specs.Items.{without_last_blanks, trimmed}
+use Rattle.arimaa_notation.specs.Items.{without_last_blanks, without_outer_blanks}
 use Rattle.arimaa_record.specs.Lines.{lines_of}
 use Rattle.arimaa_record.specs.Grammar.{IsStartForm, IsLabelled, text_of_word, takeback_word, IsLineText}
 use Rattle.arimaa_record.specs.Record.{AreLines}
-use Rattle.arimaa_record.specs.Written.{IsInRange, IsWritable, spaced, text_of_line, ended_line, text_of_record}
+use Rattle.arimaa_record.specs.Written.{IsInRange, IsWritable, with_spaces_before, text_of_line, ended_line, text_of_record}
 use Rattle.arimaa_record.proofs.Lemmas.LineLaws.{no_lines}
 use Rattle.arimaa_record.proofs.Lemmas.PlainLaws.{solid_seen, first_plain, label_seen, label_filled, line_plain}
 
@@ -42,20 +42,20 @@ pub label_back : (label : Label) → IsInRange label.number → IsLabel (text_of
 label_back label range = record { letter = letter_of_side label.side; side = side_back label.side; form = refl; least = range.least; most = range.most }
 
 -- a line that begins so is labelled
-labelled : (label : Label) (parts : List (List ℕ)) → IsInRange label.number → IsLabelled (joined (text_of_label label ∷ parts)) label (items_of (spaced parts))
+labelled : (label : Label) (parts : List (List ℕ)) → IsInRange label.number → IsLabelled (items_text (text_of_label label ∷ parts)) label (items_of (with_spaces_before parts))
 labelled label parts range = record {
   item = text_of_label label;
-  begun = items-item (text_of_label label) (spaced parts) (label_filled label) (solid_seen (text_of_label label) (label_seen label range)) (ended parts);
+  begun = items-item (text_of_label label) (with_spaces_before parts) (label_filled label) (solid_seen (text_of_label label) (label_seen label range)) (ended parts);
   named = label_back label range;
 }
   where
-    ended : (parts : List (List ℕ)) → is_blank (get_or (spaced parts) 0 32) ≡ true
+    ended : (parts : List (List ℕ)) → is_blank (get_or (with_spaces_before parts) 0 32) ≡ true
     ended [] = refl
     ended (x ∷ xs) = refl
 
-spaced_items : (parts : List (List ℕ)) → items_of (spaced parts) ≡ items_of (joined parts)
+spaced_items : (parts : List (List ℕ)) → items_of (with_spaces_before parts) ≡ items_of (items_text parts)
 spaced_items [] = refl
-spaced_items (x ∷ xs) = items-blank 32 (joined (x ∷ xs)) refl
+spaced_items (x ∷ xs) = items-blank 32 (items_text (x ∷ xs)) refl
 
 -- what is written of a line is read as it
 abbrev pub ReadsBack : RecordLine → Type 0
@@ -67,15 +67,15 @@ blank_back = λ h. inl no_items
 pub turn_back : (number : ℕ) (side : Color) (noted : List NotedStep) → (0 < length noted → IsTurnText (text_of_turn noted) noted) → ReadsBack (line.Turn number side noted)
 turn_back number side noted text = λ h.
     let t = text h.1 in
-    let reading : IsTurnReading (items_of (joined (items_of_turn noted))) (Ok noted) = (t.steps, t.some, t.few) in
-    (items_of (spaced (items_of_turn noted)), labelled (label_of number side) (items_of_turn noted) h.0, subst (λ x. IsTurnReading x (Ok noted)) (sym (spaced_items (items_of_turn noted))) reading)
+    let reading : IsTurnReading (items_of (items_text (items_of_turn noted))) (Ok noted) = (t.steps, t.some, t.few) in
+    (items_of (with_spaces_before (items_of_turn noted)), labelled (label_of number side) (items_of_turn noted) h.0, subst (λ x. IsTurnReading x (Ok noted)) (sym (spaced_items (items_of_turn noted))) reading)
 
 pub setup_back : (number : ℕ) (side : Color) (setup : Lineup) → IsSetupText (text_of_setup setup) setup.color setup → ReadsBack (line.Setup number side setup)
 setup_back number side setup t = λ h.
-    let reading : IsSetupReading (items_of (joined (items_of_entries setup.pairs))) side (Ok setup) = (t.entries, h.1, t.rule) in
-    (items_of (spaced (items_of_entries setup.pairs)), labelled (label_of number side) (items_of_entries setup.pairs) h.0, subst (λ x. IsSetupReading x side (Ok setup)) (sym (spaced_items (items_of_entries setup.pairs))) reading)
+    let reading : IsSetupReading (items_of (items_text (items_of_entries setup.pairs))) side (Ok setup) = (t.entries, h.1, t.rule) in
+    (items_of (with_spaces_before (items_of_entries setup.pairs)), labelled (label_of number side) (items_of_entries setup.pairs) h.0, subst (λ x. IsSetupReading x side (Ok setup)) (sym (spaced_items (items_of_entries setup.pairs))) reading)
 
-word_item : (w : Word) → items_of (spaced (text_of_word w ∷ [])) ≡ text_of_word w ∷ []
+word_item : (w : Word) → items_of (with_spaces_before (text_of_word w ∷ [])) ≡ text_of_word w ∷ []
 unfolding items_of
 word_item Resigns = refl
 word_item Time = refl
@@ -86,7 +86,7 @@ closing_back number side word = λ h. subst (IsLabelled (text_of_line (line.Clos
 bare_back : (number : ℕ) (side : Color) → ReadsBack (line.Bare number side)
 bare_back number side = λ h. subst (IsLabelled (text_of_line (line.Bare number side)) (label_of number side)) no_items (labelled (label_of number side) [] h)
 
-takeback_item : items_of (spaced (takeback_word ∷ [])) ≡ takeback_word ∷ []
+takeback_item : items_of (with_spaces_before (takeback_word ∷ [])) ≡ takeback_word ∷ []
 unfolding items_of
 takeback_item = refl
 
@@ -99,17 +99,17 @@ last_closed xs =
     let ends : suffix_len is_blank (xs ++ 93 ∷ []) ≡ 0 = ap (prefix_len is_blank) (reverse-append xs (93 ∷ [])) in
     ap (λ n. take (length (xs ++ 93 ∷ []) - n) (xs ++ 93 ∷ [])) ends ∙ take_all _ (xs ++ 93 ∷ []) (omega arith)
 
-pub trimmed_board : (b : Board) → text_of b ≡ trimmed (spaced (text_of b ∷ []))
+pub trimmed_board : (b : Board) → text_of b ≡ without_outer_blanks (with_spaces_before (text_of b ∷ []))
 trimmed_board b =
     let whole : text_of b ++ [] ≡ text_of b = append-nil (text_of b) in
     sym (ap without_last_blanks whole ∙ last_closed (91 ∷ places_of b))
 
-start_form : (label : Label) (b : Board) → IsInRange label.number → IsStartForm (joined (codes "start" ∷ text_of_label label ∷ text_of b ∷ [])) label (text_of b)
+start_form : (label : Label) (b : Board) → IsInRange label.number → IsStartForm (items_text (codes "start" ∷ text_of_label label ∷ text_of b ∷ [])) label (text_of b)
 start_form label b range = record {
-  after = spaced (text_of_label label ∷ text_of b ∷ []);
+  after = with_spaces_before (text_of_label label ∷ text_of b ∷ []);
   word = record { blanks = []; cut = refl; blank = All-nil (λ c. is_blank c ≡ true); filled = omega arith; solid = All-from_recursion (λ c. is_blank c ≡ false) (codes "start") (refl, (refl, (refl, (refl, (refl, tt))))); ended = refl };
   item = text_of_label label;
-  rest = spaced (text_of b ∷ []);
+  rest = with_spaces_before (text_of b ∷ []);
   next = record {
     blanks = 32 ∷ [];
     cut = refl;
@@ -161,11 +161,11 @@ pub on_ok : {T E P : Type 0} (r : Result T E) → P → OnOk r P
 on_ok (Ok x) p = p
 on_ok (Err e) p = tt
 
-pub turn_spaced : (ns : List NotedStep) (empty : Bool) → empty ≡ (length ns == 0) → empty ≡ false → 32 ∷ text_of_turn ns ≡ spaced (items_of_turn ns)
+pub turn_spaced : (ns : List NotedStep) (empty : Bool) → empty ≡ (length ns == 0) → empty ≡ false → 32 ∷ text_of_turn ns ≡ with_spaces_before (items_of_turn ns)
 turn_spaced [] empty is none = absurd (true≢false (sym is ∙ none))
 turn_spaced (n ∷ ns) empty is none = refl
 
-entries_spaced : (es : List (ℕ × Piece)) → 0 < length es → 32 ∷ joined (items_of_entries es) ≡ spaced (items_of_entries es)
+entries_spaced : (es : List (ℕ × Piece)) → 0 < length es → 32 ∷ items_text (items_of_entries es) ≡ with_spaces_before (items_of_entries es)
 entries_spaced [] some = absurd (omega arith)
 entries_spaced (e ∷ es) some = refl
 

@@ -13,7 +13,7 @@ use Rattle.arimaa_record.specs.declared.line.RecordLine.TheVariants as line
 use Rattle.arimaa_record.specs.declared.fault.LineFault.{LineFault}
 use Rattle.arimaa_record.specs.declared.fault.LineFault.TheVariants as fault
 use Rattle.arimaa_record.specs.Label.{IsLabel, label_of}
-use Rattle.arimaa_notation.specs.Items.{trimmed}
+use Rattle.arimaa_notation.specs.Items.{without_outer_blanks}
 
 -- a comment: after any blanks the line begins with '#'
 pub record IsComment (bytes : List ℕ) : Type 0 where
@@ -34,7 +34,7 @@ pub record IsStartForm (bytes : List ℕ) (label : Label) (text : List ℕ) : Ty
   pub rest : List ℕ
   pub next : IsFirstItem after item rest
   pub named : IsLabel item label
-  pub last : text ≡ trimmed rest
+  pub last : text ≡ without_outer_blanks rest
 
 -- a line that begins with a label, after which these items follow
 pub record IsLabelled (bytes : List ℕ) (label : Label) (items : List (List ℕ)) : Type 0 where

@@ -3,7 +3,7 @@ use Rattle.std.specs.Prelude.{◌≡◌, ◌≤◌, ◌<◌, ℕ, List, [], ◌�
 use Rattle.std.specs.List.{flat_map}
 use Rattle.arimaa_board.specs.Fit.{IsFit}
 use Rattle.arimaa_board.specs.Text.{text_of}
-use Rattle.arimaa_notation.specs.Written.{items_of_turn, items_of_entries, joined}
+use Rattle.arimaa_notation.specs.Written.{items_of_turn, items_of_entries, items_text}
 use Rattle.arimaa_record.specs.declared.line.RecordLine.{RecordLine}
 use Rattle.arimaa_record.specs.declared.line.RecordLine.TheVariants as line
 use Rattle.arimaa_record.specs.Label.{label_of, text_of_label}
@@ -27,11 +27,11 @@ parts_of_line (line.Takeback number side) = text_of_label
 
 -- the written form of a line without its end: its parts with one space between each two
 abbrev pub text_of_line : RecordLine → List ℕ
-text_of_line l = joined (parts_of_line l)
+text_of_line l = items_text (parts_of_line l)
 
 -- a space before each of these
-abbrev pub spaced : List (List ℕ) → List ℕ
-spaced parts = flat_map (λ part. 32 ∷ part) parts
+abbrev pub with_spaces_before : List (List ℕ) → List ℕ
+with_spaces_before parts = flat_map (λ part. 32 ∷ part) parts
 
 -- a line with the line feed that ends it
 abbrev pub ended_line : RecordLine → List ℕ

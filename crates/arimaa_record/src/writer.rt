@@ -6,7 +6,7 @@ ghost use Rattle.arimaa_record.specs.Label.{text_of_label, letter_of_side};
 ghost use Rattle.arimaa_record.specs.Grammar.{text_of_word, IsLineText};
 ghost use Rattle.arimaa_record.specs.Lines.{lines_of};
 ghost use Rattle.arimaa_record.specs.Record.{AreLines};
-ghost use Rattle.arimaa_record.specs.Written.{spaced, text_of_line, ended_line, text_of_record, IsWritable};
+ghost use Rattle.arimaa_record.specs.Written.{with_spaces_before, text_of_line, ended_line, text_of_record, IsWritable};
 ghost use Rattle.std.specs.List.{AllByRecursion};
 
 use crate::label::Label;
@@ -47,7 +47,7 @@ fn push_part(text: &mut Vec<u8>, part: &[u8]) -> Result<(), AllocError>
 // Adds a space and the steps of a turn, if it has any.
 fn push_turn(text: &mut Vec<u8>, noted: &Noted) -> Result<(), AllocError>
     ensures text { OnOk result
-        (text.new.items ≡ text.old.items ++ spaced (items_of_turn noted.now)) }
+        (text.new.items ≡ text.old.items ++ with_spaces_before (items_of_turn noted.now)) }
     ensures reads_back { OnOk result
         (0 < length noted.now → IsTurnText (text_of_turn noted.now) noted.now) }
 {

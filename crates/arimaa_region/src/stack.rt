@@ -29,7 +29,7 @@ pub(crate) struct Stack<T: Key> {
 
 impl<T: Key> Model for Stack<T> {
     ghost use Rattle.std.specs.Prelude.{◌≤◌, length, vec_capacity};
-    ghost use Rattle.arimaa_region.specs.Layout.{cut, IsSound};
+    ghost use Rattle.arimaa_region.specs.Layout.{segments_between, IsSound};
     ghost use Rattle.arimaa_region.specs.Segments.{Stacked, stacked_code};
 
     ghost Value = { Stacked T };
@@ -38,7 +38,7 @@ impl<T: Key> Model for Stack<T> {
 
     ghost view = { λ r. record {
       room = r.room;
-      segments = cut r.places.items r.starts r.open_segments (length r.index.buckets);
+      segments = segments_between r.places.items r.starts r.open_segments (length r.index.buckets);
     } };
 
     ghost invariant = { λ r. (IsSound T.hash_of r.room r.open_segments r.places.items r.index r.starts)

@@ -28,7 +28,7 @@ use Rattle.arimaa_step.specs.Next.{next_answer, next_fault, next_state, cuts_nex
 use Rattle.arimaa_step.specs.State.{trap_first}
 use Rattle.arimaa_step.proofs.Lemmas.AcceptedLaws.{and_false}
 use Rattle.arimaa_model.specs.Marks.{removed_by}
-use Rattle.arimaa_results.specs.Ahead.{made, states_by, next_states, value_of, allowed, given_by}
+use Rattle.arimaa_results.specs.Ahead.{state_of_step, states_by, next_states, value_of, is_unbarred, given_by}
 use Rattle.arimaa_results.specs.NextStates.{AreAllEnding, ends_of, pairs_by, next_pairs, pairs_of_content, has_step, pairs_from, pairs_left, AreAllAccepted, same_dir, IsFirstDirection, IsTaken}
 use Rattle.arimaa_results.proofs.FirstSteps.{in_mask}
 
@@ -87,11 +87,11 @@ by_test-first t u X West here first left =
     ∙ sym (λ i. X West ++ by_four X ((left North ∙ (and-true (t North) ∙ first.0)) i) ((left East ∙ (and-true (t East) ∙ first.1)) i) ((left South ∙ (and-true (t South) ∙ first.2)) i) ((left West ∙ and_false (t West)) i))
 
 module _ (st : TurnState) where
-  no_state : (r : Result StepDone StepFault) → is_ok r ≡ false → option_to_list (made r) ≡ []
+  no_state : (r : Result StepDone StepFault) → is_ok r ≡ false → option_to_list (state_of_step r) ≡ []
   no_state (Ok done) fails = cc
   no_state (Err e) fails = refl
 
-  one_state : (o : Option StepFault) (done : StepDone) → is_ok (unless o done) ≡ true → option_to_list (made (unless o done)) ≡ done.state ∷ []
+  one_state : (o : Option StepFault) (done : StepDone) → is_ok (unless o done) ≡ true → option_to_list (state_of_step (unless o done)) ≡ done.state ∷ []
   one_state None done fine = refl
   one_state (Some e) done fine = cc
 
@@ -115,7 +115,7 @@ module _ (st : TurnState) where
     done : StepDone
     done = record { state = next_state st s; removed = trap_first (removed_by st.board s) }
 
-    by_fault : (o : Option StepFault) → option_to_list (made (unless o done)) ≡ cond (is_ok {T = StepDone} (unless o done)) (next_state st s ∷ []) []
+    by_fault : (o : Option StepFault) → option_to_list (state_of_step (unless o done)) ≡ cond (is_ok {T = StepDone} (unless o done)) (next_state st s ∷ []) []
     by_fault None = refl
     by_fault (Some e) = refl
 
@@ -239,7 +239,7 @@ module _ (barred : List Position) (st : TurnState) where
       elim (is_ok (next_answer st s)) as (λ v. is_ok (next_answer st s) ≡ v → (v && cuts_next st s) ≡ false → flat_map given (pairs_by st s) ≡ []) [
         | true ↦ λ fine torn.
             ap (flat_map given) (accepted st s fine)
-            ∙ ap (λ o. filter (allowed barred) (option_to_list o) ++ []) (unfinished (st.count + 1 == 0) (cuts_next st s) _ torn)
+            ∙ ap (λ o. filter (is_unbarred barred) (option_to_list o) ++ []) (unfinished (st.count + 1 == 0) (cuts_next st s) _ torn)
         | false ↦ λ fails _. ap (flat_map given) (refused st s fails)
       ] refl not_both
 

@@ -13,7 +13,7 @@ use Rattle.arimaa_region.specs.Same.{same_position, same_position-Decides, first
 use Rattle.arimaa_results.specs.Conditions.{brings_passing, first_passing}
 use Rattle.arimaa_results.proofs.Lemmas.Firsts.{filter-firsts}
 use Rattle.arimaa_results.proofs.Lemmas.Found.{filter-any}
-use Rattle.arimaa_results.specs.Ahead.{allowed}
+use Rattle.arimaa_results.specs.Ahead.{is_unbarred}
 use Rattle.arimaa_results.proofs.Lemmas.Given.{head_of}
 
 pub begins : {X : Type 0} (q : X) (xs : List X) → head_of xs ≡ Some q → xs ≡ q ∷ drop 1 xs
@@ -44,18 +44,18 @@ firsts-is qs (x ∷ xs) = firsts-is (cond (list_any (same_position x) qs) qs (qs
 
 module _ (barred : List Position) (p : Position) where
   -- with a first turn that brings about what is not barred
-  pub first-next : (steps : List Step) (q : Position) → Some steps ≡ first_passing (allowed barred) p → result_of p steps ≡ Some q → next barred p ≡ q ∷ drop 1 (next barred p)
+  pub first-next : (steps : List Step) (q : Position) → Some steps ≡ first_passing (is_unbarred barred) p → result_of p steps ≡ Some q → next barred p ≡ q ∷ drop 1 (next barred p)
   unfolding first_passing results
   first-next steps q found is =
       let xs = filter_map (result_of p) turn_lists in
-      let passing : filter (allowed barred) xs ≡ q ∷ drop 1 (filter (allowed barred) xs) = begins q (filter (allowed barred) xs) (front-passing (allowed barred) (result_of p) steps q turn_lists (sym found) is) in
-      let kept : next barred p ≡ firsts same_position [] (filter (allowed barred) xs) =
-      ap (filter (allowed barred)) (firsts-is [] xs) ∙ filter-firsts same_position same_position-Decides (allowed barred) [] xs in
-      begins q (next barred p) (ap head_of kept ∙ (ap (λ l. head_of (firsts same_position [] l)) passing ∙ front-firsts same_position q [] (drop 1 (filter (allowed barred) xs))))
+      let passing : filter (is_unbarred barred) xs ≡ q ∷ drop 1 (filter (is_unbarred barred) xs) = begins q (filter (is_unbarred barred) xs) (front-passing (is_unbarred barred) (result_of p) steps q turn_lists (sym found) is) in
+      let kept : next barred p ≡ firsts same_position [] (filter (is_unbarred barred) xs) =
+      ap (filter (is_unbarred barred)) (firsts-is [] xs) ∙ filter-firsts same_position same_position-Decides (is_unbarred barred) [] xs in
+      begins q (next barred p) (ap head_of kept ∙ (ap (λ l. head_of (firsts same_position [] l)) passing ∙ front-firsts same_position q [] (drop 1 (filter (is_unbarred barred) xs))))
 
   -- with none
-  pub none-next : false ≡ list_any (allowed barred) (results p) → next barred p ≡ []
-  none-next fails = empty (next barred p) (λ more. true≢false (sym (filter-any (allowed barred) (results p) more) ∙ sym fails)) where
+  pub none-next : false ≡ list_any (is_unbarred barred) (results p) → next barred p ≡ []
+  none-next fails = empty (next barred p) (λ more. true≢false (sym (filter-any (is_unbarred barred) (results p) more) ∙ sym fails)) where
     empty : (l : List Position) → (0 < length l → ⊥) → l ≡ []
     empty [] some = refl
     empty (x ∷ xs) some = absurd (some (omega arith))

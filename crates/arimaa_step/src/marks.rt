@@ -1,7 +1,7 @@
 //! The pieces that steps remove, and the marks that name them.
 ghost use Rattle.std.specs.Prelude.{◌≡◌, ◌↔◌, ℕ, IsTrue, IsOk, Err, IfErr, IfOk, OnOk};
 ghost use Rattle.arimaa_board.specs.NotedTurns.{noted_turn, noted_marks};
-ghost use Rattle.arimaa_model.specs.Faults.{applied};
+ghost use Rattle.arimaa_model.specs.Faults.{apply_result};
 ghost use Rattle.arimaa_model.specs.Marks.{marks_of, same_mark, marks_right};
 ghost use Rattle.arimaa_step.specs.declared.marks.Marks.TheVariants.{Required};
 ghost use Rattle.arimaa_step.specs.MarkRules.{MarksFit, mark_fits, marks_fit};
@@ -72,8 +72,8 @@ fn with_marks(p: &Position, turn: &Turn) -> Noted
 
 /// A turn with exactly its right marks, or its first fault.
 pub fn note(p: &Position, turn: &Turn) -> Result<Noted, ApplyFault>
-    ensures refused { IfErr result (λ e. applied p.now turn.now ≡ Err e) }
-    ensures accepted { OnOk result (IsOk (applied p.now turn.now)) }
+    ensures refused { IfErr result (λ e. apply_result p.now turn.now ≡ Err e) }
+    ensures accepted { OnOk result (IsOk (apply_result p.now turn.now)) }
     ensures turn { IfOk result (λ n. noted_turn n ≡ turn.now) }
     ensures marks { IfOk result (λ n. noted_marks n ≡ marks_of p.now.board turn.now) }
 {

@@ -8,7 +8,7 @@ use Rattle.arimaa_line.specs.declared.bounds.Bounds.{Bounds}
 use Rattle.arimaa_line.specs.declared.line.Line.{Line}
 use Rattle.arimaa_line.specs.Bounds.{AreTrueBounds}
 use Rattle.arimaa_line.specs.Lines.{IsTrueLine, IsLineOf, LosesNoBound}
-use Rattle.arimaa_line.specs.Lines.{empty_line, encoded, stamp_of}
+use Rattle.arimaa_line.specs.Lines.{empty_line, line_of_bounds, stamp_of}
 use Rattle.arimaa_table.specs.declared.view.PlaceView.{PlaceView}
 use Rattle.arimaa_table.specs.declared.view.PassView.{PassView}
 use Rattle.arimaa_table.specs.declared.view.Setting.{Setting}
@@ -90,7 +90,7 @@ IsTrueOf t k = AreTrueBounds (setting_of t).attacker (setting_of t).barred k
 abbrev pub PutAt : Table → TablePass → TablePass → ℕ → Line → Bounds → Put → Type 0
 PutAt t old new i seen known (Stored s) =
     (s ≡ stamp_of seen + 1) × (s < 2 ^ 64)
-    × TookLine t (place_view old i) (place_view new i) seen (encoded known s)
+    × TookLine t (place_view old i) (place_view new i) seen (line_of_bounds known s)
 PutAt t old new i seen known (Lost l) =
     (stamp_of seen < stamp_of l) × (stamp_of seen + 1 < 2 ^ 64)
     × TookLine t (place_view old i) (place_view new i) l l

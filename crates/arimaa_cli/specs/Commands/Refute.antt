@@ -22,11 +22,11 @@ abbrev pub held_text : List Escape → List ℕ
 held_text c = line (codes "held") ++ line escapes_word ++ text_of_escapes c
 
 -- what the maker of escapes finds, as it is answered
-abbrev pub told : Refuted → Answer
-told (refuted.Held c) = answer.Done (held_text c)
-told refuted.Wins = answer.Answered (line (codes "wins"))
-told (refuted.Spent q n counted) = answer.Spent (spent_text q n counted)
-told (refuted.Crowded q n) = answer.Crowded (crowded_text q n)
+abbrev pub answer_of_refuted : Refuted → Answer
+answer_of_refuted (refuted.Held c) = answer.Done (held_text c)
+answer_of_refuted refuted.Wins = answer.Answered (line (codes "wins"))
+answer_of_refuted (refuted.Spent q n counted) = answer.Spent (spent_text q n counted)
+answer_of_refuted (refuted.Crowded q n) = answer.Crowded (crowded_text q n)
 
 -- the budget is at least what it costs to ask everything, and the room what the position itself
 -- needs
@@ -46,7 +46,7 @@ pub record IsMade (asked : Asked) (h : List Position) (p : Position)
 pub record IsToldOf (asked : Asked) (h : List Position) (p : Position) (a : Answer) : Type 0 where
   pub found : Refuted
   pub made : IsMade asked h p found
-  pub told : a ≡ told found
+  pub told : a ≡ answer_of_refuted found
 
 -- what refute answers about a lawful record of this game
 abbrev pub IsRefuteAnswer : Asked → Game → Answer → Type 0

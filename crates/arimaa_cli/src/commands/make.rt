@@ -4,7 +4,7 @@ ghost use Rattle.arimaa_board.specs.Fit.{IsFit};
 ghost use Rattle.arimaa_board.specs.declared.position.Position.{Position as Place};
 ghost use Rattle.arimaa_forced.specs.Entries.{steps_with_marks};
 ghost use Rattle.arimaa_record.specs.declared.label.Label.{Label as Due};
-ghost use Rattle.arimaa_game.specs.Play.{begun, ending_of, grown};
+ghost use Rattle.arimaa_game.specs.Play.{game_from, ending_of, game_with};
 ghost use Rattle.arimaa_model.specs.Game.{barred_by, present};
 ghost use Rattle.arimaa_model.specs.Results.{next, result_of};
 ghost use Rattle.arimaa_model.specs.Turns.{is_turn};
@@ -91,7 +91,7 @@ fn play(game: &mut Game, turn: &Turn, p: &Position, q: &Position) -> Result<(), 
     requires place { (k : ℕ)
         × (slice_get (next (barred_by game.old.history) p.now) k ≡ Some q.now) }
     requires reaches { result_of p.now turn.now ≡ Some q.now }
-    ensures { OnOk result (game.new ≡ grown game.old q.now) }
+    ensures { OnOk result (game.new ≡ game_with game.old q.now) }
 {
     match game.play(turn) {
         Ok(_) => Ok(()),

@@ -2,7 +2,7 @@
 //! record ends with.
 ghost use Rattle.std.specs.Prelude.{◌≡◌, ◌≤◌, IfOk};
 ghost use Rattle.arimaa_pool.specs.Limits.{AreWithinLimits};
-ghost use Rattle.arimaa_cli.specs.Commands.Refute.{IsRefuteAnswer, held_text, told};
+ghost use Rattle.arimaa_cli.specs.Commands.Refute.{IsRefuteAnswer, held_text, answer_of_refuted};
 ghost use Rattle.arimaa_cli.specs.Records.{IsAnswerAbout};
 
 use super::position::position_of;
@@ -24,7 +24,7 @@ fn held_text(alloc: Global, escapes: &Escapes) -> Result<Vec<u8>, AllocError>
 
 // What the maker of escapes finds, as the answer that it is.
 fn told(alloc: Global, found: &Refuted) -> Result<Answer, AllocError>
-    ensures { IfOk result (λ a. a ≡ told found.now) }
+    ensures { IfOk result (λ a. a ≡ answer_of_refuted found.now) }
 {
     match found {
         Refuted::Held(escapes) => Ok(Answer::Done(Text::new(held_text(alloc, escapes)?))),

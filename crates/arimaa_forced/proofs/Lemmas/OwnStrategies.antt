@@ -11,7 +11,7 @@ use Rattle.arimaa_model.specs.Wins.{wins}
 use Rattle.arimaa_model.proofs.Lemmas.WinsLaws.{wins-decided}
 use Rattle.arimaa_forced.specs.Acceptance.{s_rank, q_rank, is_covered, is_answered, IsGood, AreGood, is_ready, root_rank, Accepts}
 use Rattle.arimaa_model.specs.Ranks.{IsRank, rank_within}
-use Rattle.arimaa_model.specs.Strategies.{Planned, find_entry, entry_of, open_replies, open_after, IsOpen, first_met, after_entry, met, strategy_of}
+use Rattle.arimaa_model.specs.Strategies.{Planned, find_entry, entry_of, open_replies, open_after, IsOpen, first_met, after_entry, positions_met, strategy_of}
 use Rattle.arimaa_model.proofs.Lemmas.Members.{In, filter-In, In-all}
 use Rattle.arimaa_model.proofs.Lemmas.Positions.{In-stands}
 use Rattle.arimaa_model.proofs.Lemmas.Ranking.{by-cases, wins-le, rank-is, rank-bound, one-rank, rank-decided, rank-stuck, other-won, other-rank}
@@ -50,7 +50,7 @@ module _ (a : Color) (barred : List Position) (n : ℕ) where
 
   module _ (p : Position) (won : wins a barred n p ≡ true) where
     abbrev at_most : ℕ → List Position
-    at_most k = met a barred n p k
+    at_most k = positions_met a barred n p k
 
     fresh-met : (k : ℕ) → Fresh [] (at_most k)
     fresh-met zero = fresh-first [] (first_met a barred p) tt

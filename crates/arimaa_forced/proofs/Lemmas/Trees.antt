@@ -12,7 +12,7 @@ use Rattle.arimaa_model.specs.DecidedPositions.{decided}
 use Rattle.arimaa_model.specs.Results.{first_occurrences, next}
 use Rattle.arimaa_model.specs.Wins.{wins}
 use Rattle.arimaa_model.specs.Ranks.{rank_within}
-use Rattle.arimaa_model.specs.Strategies.{Planned, entry_of, open_replies, open_after, first_met, after_entry, met, strategy_of}
+use Rattle.arimaa_model.specs.Strategies.{Planned, entry_of, open_replies, open_after, first_met, after_entry, positions_met, strategy_of}
 use Rattle.arimaa_model.proofs.Lemmas.Members.{In, In-filter, In-flat_map}
 use Rattle.arimaa_model.proofs.Lemmas.Positions.{stands-In, In-stands, In-first}
 use Rattle.arimaa_model.proofs.Lemmas.Ranking.{rank-is, rank-bound}
@@ -142,7 +142,7 @@ module _ (a : Color) (barred : List Position) (p : Position) (n r : ℕ) (small 
   top = up-to barred p n p n r root undecided small
 
   -- each position that is met stands in the tree, at its rank
-  met-tree : (k : ℕ) (x : Position) → In x (met a barred r p k) → InTree barred p n x (rank x)
+  met-tree : (k : ℕ) (x : Position) → In x (positions_met a barred r p k) → InTree barred p n x (rank x)
   met-tree zero x i = ⊎_elim (λ none. absurd none) first (In-first x [] (first_met a barred p) i) where
     first : In x (first_met a barred p) → InTree barred p n x (rank x)
     first j =
@@ -160,7 +160,7 @@ module _ (a : Color) (barred : List Position) (p : Position) (n r : ℕ) (small 
       ⊎_elim
       (λ old. met-tree k x old)
       (λ new.
-      let from = In-flat_map (after_entry a barred r) x (met a barred r p k) new in
+      let from = In-flat_map (after_entry a barred r) x (positions_met a barred r p k) new in
       let y : Position = from.0 in
       let ready = all-ready a barred r p won k y from.1 in
       let e = entry-has a barred r y ready in
@@ -172,12 +172,12 @@ module _ (a : Color) (barred : List Position) (p : Position) (n r : ℕ) (small 
       let own = met-tree k y from.1 in
       let played : InTree barred p n e.result e.before = later y e.result (rank y) e.before own ready.undecided (In-stands (next barred y) e.result e.inside) (omega arith) in
       is-next barred p e.result x n e.before (rank x) played wants lower)
-      (In-first x (met a barred r p k) (flat_map (after_entry a barred r) (met a barred r p k)) i)
+      (In-first x (positions_met a barred r p k) (flat_map (after_entry a barred r) (positions_met a barred r p k)) i)
 
   played-tree : (e : Planned) (q : Position) (j : ℕ) → Contains (strategy_of a barred r p) e → IsAsked a barred e.position e.rank q j → InTree barred p n q j
   unfolding strategy_of
   played-tree e q j there asked =
-      let from = In-map (entry_of a barred r) e (met a barred r p r) (contained _ e there.0 there.1 there.2) in
+      let from = In-map (entry_of a barred r) e (positions_met a barred r p r) (contained _ e there.0 there.1 there.2) in
       let x : Position = from.0 in
       let ready = all-ready a barred r p won r x from.1 in
       let position : e.position ≡ x = ap (λ (y : Planned). y.position) from.2 ∙ entry-position a barred r x in
@@ -197,17 +197,17 @@ module _ (a : Color) (barred : List Position) (p : Position) (n : ℕ) where
 -- the strategy of a decided position has no entry
 no-entries : (a : Color) (barred : List Position) (p : Position) (r : ℕ) (e : Planned) (x : Ending) → decided p ≡ Some x → wins a barred r p ≡ true → Contains (strategy_of a barred r p) e → ⊥
 unfolding strategy_of
-no-entries a barred p r e x is won there = let from = In-map (entry_of a barred r) e (met a barred r p r) (contained _ e there.0 there.1 there.2) in nothing r from.0 from.1 where
+no-entries a barred p r e x is won there = let from = In-map (entry_of a barred r) e (positions_met a barred r p r) (contained _ e there.0 there.1 there.2) in nothing r from.0 from.1 where
   first-none : first_met a barred p ≡ []
   first-none = elim (same_color p.side a) as (λ v. cond v (filter (λ q. is_none (decided q)) (p ∷ [])) (open_replies barred p) ≡ []) [ true ↦ rw is refl | false ↦ rw is refl ]
 
-  nothing : (k : ℕ) (y : Position) → In y (met a barred r p k) → ⊥
+  nothing : (k : ℕ) (y : Position) → In y (positions_met a barred r p k) → ⊥
   nothing zero y i = subst (λ (l : List Position). In y (first_occurrences [] l)) first-none i
   nothing (suc k) y i =
       ⊎_elim
       (λ old. nothing k y old)
-      (λ new. let from = In-flat_map (after_entry a barred r) y (met a barred r p k) new in nothing k from.0 from.1)
-      (In-first y (met a barred r p k) (flat_map (after_entry a barred r) (met a barred r p k)) i)
+      (λ new. let from = In-flat_map (after_entry a barred r) y (positions_met a barred r p k) new in nothing k from.0 from.1)
+      (In-first y (positions_met a barred r p k) (flat_map (after_entry a barred r) (positions_met a barred r p k)) i)
 
 module _ (a : Color) (barred : List Position) (p : Position) (n : ℕ) (x : Ending) (is : decided p ≡ Some x) where
   asked-decided : (m : ℕ) (q : Position) (j : ℕ) → IsAsked a barred p m q j → q ≡ p

@@ -9,7 +9,7 @@ use Rattle.arimaa_board.specs.declared.position.Step.{Step}
 use Rattle.arimaa_model.specs.declared.fault.ApplyFault.{ApplyFault}
 use Rattle.arimaa_model.specs.declared.fault.StepFault.{StepFault}
 use Rattle.arimaa_model.specs.declared.fault.TurnFault.{TurnFault}
-use Rattle.arimaa_model.specs.Faults.{applied, first_fault, judged_turn, reached_by, turn_fault}
+use Rattle.arimaa_model.specs.Faults.{apply_result, first_fault, judged_turn, reached_by, turn_fault}
 use Rattle.arimaa_model.specs.FirstFaults.{first_fault_in, step_or_whole, whole_fault}
 use Rattle.arimaa_model.specs.Marks.{marks_right}
 use Rattle.arimaa_model.specs.Members.{Stands}
@@ -25,16 +25,16 @@ use Rattle.arimaa_game.specs.declared.fault.GameFault.{GameFault}
 use Rattle.arimaa_game.specs.declared.fault.GameFault.TheVariants as faults
 use Rattle.arimaa_game.specs.Faults.{IsFaultOf, fault_of, rule_broken, rule_of_answer}
 use Rattle.arimaa_game.proofs.Lemmas.Endings.{not_ended}
-use Rattle.arimaa_game.specs.Play.{BringsAbout, IsGame, Play, Reaches, ending_of, played, unless_marked, unless_third}
+use Rattle.arimaa_game.specs.Play.{BringsAbout, IsGame, Play, Reaches, ending_of, play_outcome, unless_marked, unless_third}
 
 -- no turn is played in a game that has ended
-pub played-over : (g : Play) (steps : List Step) → is_some (ending_of g) ≡ true → Err faults.Over ≡ played g steps
-unfolding played
+pub played-over : (g : Play) (steps : List Step) → is_some (ending_of g) ≡ true → Err faults.Over ≡ play_outcome g steps
+unfolding play_outcome
 played-over g steps over = sym (rw over refl)
 
 -- in one that goes on it is played from the present position
-pub played-running : (g : Play) (p : Position) (steps : List Step) → is_some (ending_of g) ≡ false → present g.history ≡ Some p → unless_third g.history (applied p steps) ≡ played g steps
-unfolding played
+pub played-running : (g : Play) (p : Position) (steps : List Step) → is_some (ending_of g) ≡ false → present g.history ≡ Some p → unless_third g.history (apply_result p steps) ≡ play_outcome g steps
+unfolding play_outcome
 played-running g p steps running now = sym (rw (running, now) refl)
 
 lawful-present : (h : List Position) (p : Position) → present h ≡ Some p → lawful h ≡ lawful_at h p
@@ -45,7 +45,7 @@ parts-position p q side = λ i. record { board = q.board; side = sym side i }
 
 -- a turn that can be applied in a game that goes on reaches a position on a fit board, which is lawful unless it stands twice
 module _ (g : Play) (p : Position) (steps : List Step) (game : IsGame g) (now : present g.history ≡ Some p) (few : length steps ≤ 4) (running : is_some (ending_of g) ≡ false) where
-  pub reaches : (q : Position) → Ok q ≡ applied p steps → Reaches g p steps q
+  pub reaches : (q : Position) → Ok q ≡ apply_result p steps → Reaches g p steps q
   reaches q is =
       let turn : IsTurnTo p steps q = (apply_law p steps few q).0 (sym is) in
       let fit : IsFit p.board = present-holds (λ (x : Position). IsFit x.board) g.history p game.fit now in
@@ -60,7 +60,7 @@ module _ (g : Play) (p : Position) (steps : List Step) (game : IsGame g) (now : 
       }
 
 -- a turn that cannot be applied has its fault in the game
-pub played-fault : (g : Play) (p : Position) (steps : List Step) (e : ApplyFault) → present g.history ≡ Some p → is_some (ending_of g) ≡ false → Err e ≡ applied p steps → played g steps ≡ Err (fault_of e)
+pub played-fault : (g : Play) (p : Position) (steps : List Step) (e : ApplyFault) → present g.history ≡ Some p → is_some (ending_of g) ≡ false → Err e ≡ apply_result p steps → play_outcome g steps ≡ Err (fault_of e)
 played-fault g p steps e now running is = sym (played-running g p steps running now) ∙ ap (unless_third g.history) (sym is)
 
 -- what stands at most once may be reached
@@ -100,19 +100,19 @@ same_rule h q false None None =
 
 -- the fault of a turn with its marks is the first that the rules name
 pub noted-rule : (g : Play) (p : Position) (steps : List Step) (marks : List (Option (Piece × ℕ))) → present g.history ≡ Some p → ending_of g ≡ None
-    → first_fault_in g.history p steps marks ≡ rule_of_answer (unless_marked (marks_right p.board steps marks) (played g steps))
-unfolding first_fault_in applied
+    → first_fault_in g.history p steps marks ≡ rule_of_answer (unless_marked (marks_right p.board steps marks) (play_outcome g steps))
+unfolding first_fault_in apply_result
 noted-rule g p steps marks now running =
     same_rule g.history (reached_by p (reverse steps)) (marks_right p.board steps marks) (first_fault p.board p.side steps) (turn_fault p.board p.side (reverse steps))
     ∙ ap (λ (r : Result Position GameFault). rule_of_answer (unless_marked (marks_right p.board steps marks) r)) (played-running g p steps (ap is_some running) now)
 
 -- for right marks the fault of a turn is the first that the rules name
-pub first-rule : (g : Play) (p : Position) (steps : List Step) (marks : List (Option (Piece × ℕ))) → present g.history ≡ Some p → ending_of g ≡ None → IsTrue (marks_right p.board steps marks) → first_fault_in g.history p steps marks ≡ rule_of_answer (played g steps)
+pub first-rule : (g : Play) (p : Position) (steps : List Step) (marks : List (Option (Piece × ℕ))) → present g.history ≡ Some p → ending_of g ≡ None → IsTrue (marks_right p.board steps marks) → first_fault_in g.history p steps marks ≡ rule_of_answer (play_outcome g steps)
 first-rule g p steps marks now running right =
-    noted-rule g p steps marks now running ∙ ap (λ (b : Bool). rule_of_answer (unless_marked b (played g steps))) right
+    noted-rule g p steps marks now running ∙ ap (λ (b : Bool). rule_of_answer (unless_marked b (play_outcome g steps))) right
 
 -- for wrong marks it is the fault of the marks, unless a step is refused
 pub unmarked-rule : (g : Play) (p : Position) (steps : List Step) (marks : List (Option (Piece × ℕ))) → present g.history ≡ Some p → ending_of g ≡ None → marks_right p.board steps marks ≡ false
-    → first_fault_in g.history p steps marks ≡ rule_of_answer (unless_marked false (played g steps))
+    → first_fault_in g.history p steps marks ≡ rule_of_answer (unless_marked false (play_outcome g steps))
 unmarked-rule g p steps marks now running wrong =
-    noted-rule g p steps marks now running ∙ ap (λ (b : Bool). rule_of_answer (unless_marked b (played g steps))) wrong
+    noted-rule g p steps marks now running ∙ ap (λ (b : Bool). rule_of_answer (unless_marked b (play_outcome g steps))) wrong

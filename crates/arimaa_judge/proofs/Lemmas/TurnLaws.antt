@@ -11,7 +11,7 @@ use Rattle.arimaa_model.specs.declared.fault.ApplyFault.TheVariants as applying
 use Rattle.arimaa_model.specs.declared.fault.FirstFault.{FirstFault}
 use Rattle.arimaa_model.specs.declared.fault.StepFault.{StepFault}
 use Rattle.arimaa_model.specs.declared.fault.TurnFault.{TurnFault}
-use Rattle.arimaa_model.specs.Faults.{applied, first_fault, turn_fault, reached_by, judged_turn}
+use Rattle.arimaa_model.specs.Faults.{apply_result, first_fault, turn_fault, reached_by, judged_turn}
 use Rattle.arimaa_model.specs.FirstFaults.{first_fault_in}
 use Rattle.arimaa_model.specs.Game.{count_in, ending, present}
 use Rattle.arimaa_model.specs.Wins.{is_nil}
@@ -70,8 +70,8 @@ pub first_rule : (h : List Position) (p : Position) (noted : List NotedStep) (o 
 first_rule h p noted o now is = sym (rw now (ap rule_of_first is))
 
 -- an applied turn reaches what its steps reach
-reached : (p q : Position) (steps : List Step) → applied p steps ≡ Ok q → q ≡ reached_by p (reverse steps)
-unfolding applied
+reached : (p q : Position) (steps : List Step) → apply_result p steps ≡ Ok q → q ≡ reached_by p (reverse steps)
+unfolding apply_result
 reached p q steps is = by_parts (first_fault p.board p.side steps) (turn_fault p.board p.side (reverse steps)) (reached_by p (reverse steps)) is where
   by_parts : (f : Option (ℕ × StepFault)) (w : Option TurnFault) (r : Position) → judged_turn f w r ≡ Ok q → q ≡ r
   by_parts (Some e) w r ok = absurd (cc)
@@ -88,7 +88,7 @@ module _ (g : Play) (p : Position) (noted : List NotedStep) (unclosed : g.closin
   broken_rule e fault first =
       let marked : Bool = has_right_marks (present g.history) noted in
       let here = rw (← played-running g p (noted_turn noted) (ap is_some goes) now) at fault in
-      same_rule marked g.history (applied p (noted_turn noted)) e here ∙ first_rule g.history p noted (rule_broken e) now first
+      same_rule marked g.history (apply_result p (noted_turn noted)) e here ∙ first_rule g.history p noted (rule_broken e) now first
 
   -- a turn that is played adds what its steps reach
   pub brought : (new : Play) → length noted ≤ 4 → GoesOn g (noted_turn noted) new → new.history ≡ with_turn g.history (noted_turn noted)
@@ -97,8 +97,8 @@ module _ (g : Play) (p : Position) (noted : List NotedStep) (unclosed : g.closin
       let q = on.1 in
       let same : Some on.0 ≡ Some p = sym on.2.present ∙ now in
       let start : on.0 ≡ p = cc in
-      let ok : applied on.0 (noted_turn noted) ≡ Ok q = (apply_law on.0 (noted_turn noted) few q).1 on.2.turn in
-      let is : q ≡ reached_by p (reverse (noted_turn noted)) = reached p q (noted_turn noted) (sym (ap (λ (x : Position). applied x (noted_turn noted)) start) ∙ ok) in
+      let ok : apply_result on.0 (noted_turn noted) ≡ Ok q = (apply_law on.0 (noted_turn noted) few q).1 on.2.turn in
+      let is : q ≡ reached_by p (reverse (noted_turn noted)) = reached p q (noted_turn noted) (sym (ap (λ (x : Position). apply_result x (noted_turn noted)) start) ∙ ok) in
       ap (λ (x : Play). x.history) on.3 ∙ rw now (ap (λ (x : Position). g.history ++ x ∷ []) is)
 
 -- a game that is under way goes on so

@@ -11,7 +11,7 @@ use Rattle.arimaa_board.specs.Piece.{other_color}
 use Rattle.arimaa_model.specs.Turns.{after_all, is_turn}
 use Rattle.arimaa_model.specs.Results.{stands_in, with_new, first_occurrences, results, result_of, position_of, turn_lists, next}
 use Rattle.arimaa_model.specs.Wins.{is_nil}
-use Rattle.arimaa_model.specs.Plain.{reached}
+use Rattle.arimaa_model.specs.Plain.{positions_reached}
 use Rattle.arimaa_model.specs.Members.{Stands, AreDistinct}
 use Rattle.arimaa_model.specs.Relations.{IsTurn}
 use Rattle.arimaa_model.proofs.Lemmas.Members.{In, In-append, any-In, filter-In}
@@ -76,13 +76,13 @@ turns-reach p steps c size turn =
     In-stands (results p) (position_of c p) (turn-results p (position_of c p) steps size is)
 
 -- a result of one step that is not barred is a next position
-pub near-next : (barred : List Position) (p : Position) → list_any (λ q. not (stands_in barred q)) (first_occurrences [] (reached p [] 1)) ≡ true → is_nil (next barred p) ≡ false
+pub near-next : (barred : List Position) (p : Position) → list_any (λ q. not (stands_in barred q)) (first_occurrences [] (positions_reached p [] 1)) ≡ true → is_nil (next barred p) ≡ false
 near-next barred p some =
-    let l1 = first_occurrences [] (reached p [] 1) in
-    let l2 = first_occurrences l1 (reached p [] 2) in
-    let l3 = first_occurrences l2 (reached p [] 3) in
+    let l1 = first_occurrences [] (positions_reached p [] 1) in
+    let l2 = first_occurrences l1 (positions_reached p [] 2) in
+    let l3 = first_occurrences l2 (positions_reached p [] 3) in
     let found = any-In (λ q. not (stands_in barred q)) l1 some in
     let q = found.0 in
-    let deep = first-old q l3 (reached p [] 4) (first-old q l2 (reached p [] 3) (first-old q l1 (reached p [] 2) found.1)) in
+    let deep = first-old q l3 (positions_reached p [] 4) (first-old q l2 (positions_reached p [] 3) (first-old q l1 (positions_reached p [] 2) found.1)) in
     let there : In q (results p) = subst (λ (l : List Position). In q l) (sym (results-is p)) deep in
     some-length q (next barred p) (filter-In (λ x. not (stands_in barred x)) q (results p) there found.2)

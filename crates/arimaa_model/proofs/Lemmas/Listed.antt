@@ -17,7 +17,7 @@ use Rattle.arimaa_board.specs.declared.position.Step.{Step}
 use Rattle.arimaa_model.specs.Moves.{fits, after, after_to, target}
 use Rattle.arimaa_model.specs.Turns.{after_all, has_cutting, is_turn}
 use Rattle.arimaa_model.specs.Results.{squares, step_of, stands_in, first_occurrences, results, result_of, position_of, next}
-use Rattle.arimaa_model.specs.Plain.{steps_of, candidates, reached}
+use Rattle.arimaa_model.specs.Plain.{steps_of, candidates, positions_reached}
 use Rattle.arimaa_model.proofs.Lemmas.Growing.{begins, last_fits}
 use Rattle.arimaa_model.proofs.Lemmas.Reaching.{reached-zero, reached-suc, results-is}
 use Rattle.arimaa_model.proofs.Lemmas.Members.{In, In-filter, flat_map-In, filter-In}
@@ -99,7 +99,7 @@ cutting-of p steps h =
     let c = and_parts _ _ b.0 in
     (leb-true 1 _ c.0, leb-true _ 4 c.1, b.1)
 
-In-reached : (p q : Position) (begun rest : List Step) → length p.board ≡ 64 → result_of p (begun ++ rest) ≡ Some q → In q (reached p begun (length rest))
+In-reached : (p q : Position) (begun rest : List Step) → length p.board ≡ 64 → result_of p (begun ++ rest) ≡ Some q → In q (positions_reached p begun (length rest))
 In-reached p q begun [] size is =
     let here : result_of p begun ≡ Some q = ap (result_of p) (sym (append-nil begun)) ∙ is in
     let all : In q (option_to_list (result_of p begun)) = rw here (inl refl) in
@@ -112,7 +112,7 @@ In-reached p q begun (s ∷ rest) size is =
     let inside = In-candidates (after_all p.board begun) s (length-after_all p.board begun size) fit in
     let deep = In-reached p q (begun ++ s ∷ []) rest size now in
     subst (λ (l : List Position). In q l) (sym (reached-suc p begun (length rest)))
-    (flat_map-In (λ t. reached p (begun ++ t ∷ []) (length rest)) q s (candidates (after_all p.board begun)) inside deep)
+    (flat_map-In (λ t. positions_reached p (begun ++ t ∷ []) (length rest)) q s (candidates (after_all p.board begun)) inside deep)
 
 few : (n : ℕ) → 1 ≤ n → n ≤ 4 → (n ≡ 1) ⊎ ((n ≡ 2) ⊎ ((n ≡ 3) ⊎ (n ≡ 4)))
 few zero low high = absurd (omega arith)
@@ -126,14 +126,14 @@ pub turn-results : (p q : Position) (steps : List Step) → length p.board ≡ 6
 turn-results p q steps size is =
     let parts = cutting-of p steps (result-turn p steps q is) in
     let there = In-reached p q [] steps size is in
-    let r1 = reached p [] 1 in
-    let r2 = reached p [] 2 in
-    let r3 = reached p [] 3 in
-    let r4 = reached p [] 4 in
+    let r1 = positions_reached p [] 1 in
+    let r2 = positions_reached p [] 2 in
+    let r3 = positions_reached p [] 3 in
+    let r4 = positions_reached p [] 4 in
     let l1 = first_occurrences [] r1 in
     let l2 = first_occurrences l1 r2 in
     let l3 = first_occurrences l2 r3 in
-    let at_length : (n : ℕ) → length steps ≡ n → In q (reached p [] n) = λ n e. subst (λ (k : ℕ). In q (reached p [] k)) e there in
+    let at_length : (n : ℕ) → length steps ≡ n → In q (positions_reached p [] n) = λ n e. subst (λ (k : ℕ). In q (positions_reached p [] k)) e there in
     let all : In q (first_occurrences l3 r4) =
     ⊎_elim (λ e. first-old q l3 r4 (first-old q l2 r3 (first-old q l1 r2 (first-new q [] r1 (at_length 1 e)))))
     (λ more. ⊎_elim (λ e. first-old q l3 r4 (first-old q l2 r3 (first-new q l1 r2 (at_length 2 e))))

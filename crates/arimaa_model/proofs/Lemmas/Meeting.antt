@@ -14,7 +14,7 @@ use Rattle.arimaa_model.specs.Results.{same_position, stands_in, result_of, turn
 use Rattle.arimaa_model.specs.Members.{AreDistinct}
 use Rattle.arimaa_model.specs.Wins.{wins}
 use Rattle.arimaa_model.specs.Ranks.{IsRank, rank_within, has_rank}
-use Rattle.arimaa_model.specs.Strategies.{Planned, result_at, find_entry, brings, first_best, entry_of, open_for, open_replies, open_after, IsOpen, first_met, met, strategy_of, IsStrategyOf, IsEntry}
+use Rattle.arimaa_model.specs.Strategies.{Planned, result_at, find_entry, brings, first_best, entry_of, open_for, open_replies, open_after, IsOpen, first_met, positions_met, strategy_of, IsStrategyOf, IsEntry}
 use Rattle.arimaa_model.proofs.Lemmas.Members.{In, In-filter, filter-In, find-is, find-some, In-flat_map, flat_map-In}
 use Rattle.arimaa_model.proofs.Lemmas.Positions.{same_position-Decides, same_position-same, other_color-same, stands-In, In-stands, not-stands, In-first, first-old, first-new, results-turn, results-side, next-results}
 use Rattle.arimaa_model.proofs.Lemmas.Ranking.{wins-le, rank-is, rank-bound, has_rank-is, HasBest, own-rank, other-won}
@@ -140,7 +140,7 @@ module _ (a : Color) (barred : List Position) (n : ℕ) where
 
   module _ (p : Position) (won : wins a barred n p ≡ true) where
     abbrev at_most : ℕ → List Position
-    at_most k = met a barred n p k
+    at_most k = positions_met a barred n p k
 
     pub first-ready : (x : Position) → In x (first_met a barred p) → Open x
     first-ready x i =
@@ -242,7 +242,7 @@ module _ (a : Color) (barred : List Position) (p : Position) (s : List Planned) 
   R = is.rank
 
   abbrev all_met : List Position
-  all_met = met a barred R p R
+  all_met = positions_met a barred R p R
 
   listed_met : s ≡ map (entry_of a barred R) all_met
   unfolding strategy_of

@@ -15,7 +15,7 @@ use Rattle.arimaa_board.specs.declared.position.Position.{Position}
 use Rattle.arimaa_model.specs.Moves.{fits}
 use Rattle.arimaa_model.specs.Turns.{after_all, may_grow, is_turn}
 use Rattle.arimaa_model.specs.Results.{step_of, squares, all_steps, step_lists, turn_lists, result_of, with_new, first_occurrences, results}
-use Rattle.arimaa_model.specs.Plain.{steps_of, candidates, reached}
+use Rattle.arimaa_model.specs.Plain.{steps_of, candidates, positions_reached}
 use Rattle.arimaa_model.proofs.Lemmas.Lists.{filter_map-flat_map, filter_map-map, filter_map-none, filter_map-agree, cons_option-nil, flat_map-agree, flat_map-flat_map, flat_map-map, flat_map-filter, flat_map-none}
 use Rattle.arimaa_model.proofs.Steps.{once, squares-is}
 use Rattle.arimaa_model.proofs.Lemmas.Growing.{begins, last_fits}
@@ -56,37 +56,37 @@ no_turn p xs rest stuck =
     rw fails refl
 
 -- from steps that cannot grow nothing is reached
-pub reached-none : (p : Position) (xs : List Step) (n : ℕ) → may_grow p.board p.side xs ≡ false → reached p xs n ≡ []
-unfolding reached
+pub reached-none : (p : Position) (xs : List Step) (n : ℕ) → may_grow p.board p.side xs ≡ false → positions_reached p xs n ≡ []
+unfolding positions_reached
 reached-none p xs n stuck = filter_map-none (λ rest. result_of p (xs ++ rest)) (step_lists n) (λ rest. no_turn p xs rest stuck)
 
-pub reached-zero : (p : Position) (xs : List Step) → reached p xs 0 ≡ option_to_list (result_of p xs)
-unfolding reached step_lists
+pub reached-zero : (p : Position) (xs : List Step) → positions_reached p xs 0 ≡ option_to_list (result_of p xs)
+unfolding positions_reached step_lists
 reached-zero p xs = ap (λ ys. cons_option (result_of p ys) []) (append-nil xs) ∙ cons_option-nil (result_of p xs)
 
-no_step : (p : Position) (xs : List Step) (n : ℕ) (s : Step) → holds s.piece (at (after_all p.board xs) s.from) ≡ false → reached p (xs ++ s ∷ []) n ≡ []
+no_step : (p : Position) (xs : List Step) (n : ℕ) (s : Step) → holds s.piece (at (after_all p.board xs) s.from) ≡ false → positions_reached p (xs ++ s ∷ []) n ≡ []
 unfolding fits
 no_step p xs n s other =
     reached-none p (xs ++ s ∷ []) n
     (false_from_ne_true _ (λ grows. both_ways (holds s.piece (at (after_all p.board xs) s.from)) other (and_parts _ _ (last_fits p.board p.side xs s grows)).0))
 
 -- one step more
-pub reached-suc : (p : Position) (xs : List Step) (n : ℕ) → reached p xs (suc n) ≡ flat_map (λ s. reached p (xs ++ s ∷ []) n) (candidates (after_all p.board xs))
-unfolding reached step_lists
+pub reached-suc : (p : Position) (xs : List Step) (n : ℕ) → positions_reached p xs (suc n) ≡ flat_map (λ s. positions_reached p (xs ++ s ∷ []) n) (candidates (after_all p.board xs))
+unfolding positions_reached step_lists
 reached-suc p xs n =
     filter_map-flat_map (λ rest. result_of p (xs ++ rest)) (λ s. map (λ rest. s ∷ rest) (step_lists n)) all_steps
-    ∙ (flat_map-agree _ (λ s. reached p (xs ++ s ∷ []) n) all_steps
+    ∙ (flat_map-agree _ (λ s. positions_reached p (xs ++ s ∷ []) n) all_steps
     (λ s. filter_map-map (λ rest. result_of p (xs ++ rest)) (λ rest. s ∷ rest) (step_lists n)
     ∙ filter_map-agree _ (λ rest. result_of p ((xs ++ s ∷ []) ++ rest)) (step_lists n) (λ rest. ap (result_of p) (sym (append_assoc xs (s ∷ []) rest))))
-    ∙ all_steps-candidates (λ s. reached p (xs ++ s ∷ []) n) (after_all p.board xs) (no_step p xs n))
+    ∙ all_steps-candidates (λ s. positions_reached p (xs ++ s ∷ []) n) (after_all p.board xs) (no_step p xs n))
 
 pub first_occurrences-append : (qs xs ys : List Position) → first_occurrences qs (xs ++ ys) ≡ first_occurrences (first_occurrences qs xs) ys
 first_occurrences-append qs [] ys = refl
 first_occurrences-append qs (x ∷ xs) ys = first_occurrences-append (with_new qs x) xs ys
 
 -- the results are what turns of one, two, three and four steps reach
-pub results-is : (p : Position) → results p ≡ first_occurrences (first_occurrences (first_occurrences (first_occurrences [] (reached p [] 1)) (reached p [] 2)) (reached p [] 3)) (reached p [] 4)
-unfolding results reached turn_lists
+pub results-is : (p : Position) → results p ≡ first_occurrences (first_occurrences (first_occurrences (first_occurrences [] (positions_reached p [] 1)) (positions_reached p [] 2)) (positions_reached p [] 3)) (positions_reached p [] 4)
+unfolding results positions_reached turn_lists
 results-is p =
     let g : List Step → Option Position = result_of p in
     let l1 = filter_map g (step_lists 1) in

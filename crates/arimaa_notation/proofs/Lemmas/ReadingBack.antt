@@ -12,7 +12,7 @@ use Rattle.arimaa_board.specs.declared.square.Dir.TheVariants.{North, East, Sout
 use Rattle.arimaa_board.specs.declared.turn.NotedStep.{NotedStep}
 use Rattle.arimaa_board.specs.Setup.{Lineup, IsLineup}
 use Rattle.arimaa_notation.specs.Items.{is_blank, items_of}
-use Rattle.arimaa_notation.specs.Written.{letter_of_dir, text_of_step, text_of_mark, text_of_entry, items_of_mark, items_of_turn, items_of_entries, joined, text_of_turn, text_of_setup}
+use Rattle.arimaa_notation.specs.Written.{letter_of_dir, text_of_step, text_of_mark, text_of_entry, items_of_mark, items_of_turn, items_of_entries, items_text, text_of_turn, text_of_setup}
 use Rattle.arimaa_notation.specs.Grammar.{IsOnBoard, IsTurnText, IsSetupText}
 use Rattle.arimaa_notation.proofs.Lemmas.WrittenLaws.{letter_seen}
 use Rattle.arimaa_notation.proofs.Lemmas.ItemLaws.{items-item, items-blank, no_items}
@@ -33,12 +33,12 @@ solid_all : (item : List ℕ) → IsWord item → All (λ b. is_blank b ≡ fals
 solid_all item word = All-from_recursion (λ b. is_blank b ≡ false) item (solid item word.seen)
 
 -- items that are joined fall apart again
-pub items-joined : (items : List (List ℕ)) → AllByRecursion IsWord items → items_of (joined items) ≡ items
+pub items-joined : (items : List (List ℕ)) → AllByRecursion IsWord items → items_of (items_text items) ≡ items
 items-joined [] all = no_items
 items-joined (x ∷ []) all = items-item x [] all.0.filled (solid_all x all.0) refl ∙ ap (λ y. x ∷ y) no_items
 items-joined (x ∷ y ∷ ys) all =
-    items-item x (32 ∷ joined (y ∷ ys)) all.0.filled (solid_all x all.0) refl
-    ∙ ap (λ z. x ∷ z) (items-blank 32 (joined (y ∷ ys)) refl ∙ items-joined (y ∷ ys) all.1)
+    items-item x (32 ∷ items_text (y ∷ ys)) all.0.filled (solid_all x all.0) refl
+    ∙ ap (λ z. x ∷ z) (items-blank 32 (items_text (y ∷ ys)) refl ∙ items-joined (y ∷ ys) all.1)
 
 pub dir_seen : (d : Dir) → 32 < letter_of_dir d
 dir_seen North = omega arith

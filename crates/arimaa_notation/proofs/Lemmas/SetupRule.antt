@@ -18,16 +18,16 @@ use Rattle.arimaa_board.proofs.Lemmas.SetupLaws.{same_piece, army_from_order, ar
 use Rattle.arimaa_notation.specs.declared.fault.NoteFault.{NoteFault}
 use Rattle.arimaa_notation.specs.Items.{items_of}
 use Rattle.arimaa_notation.specs.Grammar.{IsSetupText}
-use Rattle.arimaa_notation.specs.Readers.{inserted, in_order, is_lineup, lineup_of, if_setup, entries_of, setup_of_text}
+use Rattle.arimaa_notation.specs.Readers.{with_element, in_order, is_lineup, lineup_of, if_setup, entries_of, setup_of_text}
 use Rattle.arimaa_notation.proofs.Lemmas.Reading.{entries_back, entries_named}
 use Rattle.arimaa_notation.proofs.Lemmas.SetupReading.{rule_of_lineup, same_lineup}
 
 module _ {X : Type 0} (number : X → ℕ) where
-  inserted_permutes : (x : X) (ys : List X) → IsPermutation (x ∷ ys) (inserted number x ys)
+  inserted_permutes : (x : X) (ys : List X) → IsPermutation (x ∷ ys) (with_element number x ys)
   inserted_permutes x [] = IsPermutation-refl (x ∷ [])
   inserted_permutes x (y ∷ ys) = by_test (nat_le (number x) (number y)) (inserted_permutes x ys)
     where
-      by_test : (b : Bool) → IsPermutation (x ∷ ys) (inserted number x ys) → IsPermutation (x ∷ y ∷ ys) (if b then x ∷ y ∷ ys else y ∷ inserted number x ys)
+      by_test : (b : Bool) → IsPermutation (x ∷ ys) (with_element number x ys) → IsPermutation (x ∷ y ∷ ys) (if b then x ∷ y ∷ ys else y ∷ with_element number x ys)
       by_test true rest = IsPermutation-refl (x ∷ y ∷ ys)
       by_test false rest =
           IsPermutation-trans _ _ _ (IsPermutation-sym _ _ (IsPermutation-middle (y ∷ []) x ys)) (IsPermutation-cons y _ _ rest)
@@ -42,19 +42,19 @@ module _ {X : Type 0} (number : X → ℕ) where
   all_above j k [] le all = tt
   all_above j k (y ∷ ys) le all = (omega arith, all_above j k ys le all.1)
 
-  inserted_above : (k : ℕ) (x : X) (ys : List X) → k ≤ number x → AllByRecursion (λ y. k ≤ number y) ys → AllByRecursion (λ y. k ≤ number y) (inserted number x ys)
+  inserted_above : (k : ℕ) (x : X) (ys : List X) → k ≤ number x → AllByRecursion (λ y. k ≤ number y) ys → AllByRecursion (λ y. k ≤ number y) (with_element number x ys)
   inserted_above k x [] le all = (le, tt)
   inserted_above k x (y ∷ ys) le all = by_test (nat_le (number x) (number y)) (inserted_above k x ys le all.1)
     where
-      by_test : (b : Bool) → AllByRecursion (λ y. k ≤ number y) (inserted number x ys) → AllByRecursion (λ y. k ≤ number y) (if b then x ∷ y ∷ ys else y ∷ inserted number x ys)
+      by_test : (b : Bool) → AllByRecursion (λ y. k ≤ number y) (with_element number x ys) → AllByRecursion (λ y. k ≤ number y) (if b then x ∷ y ∷ ys else y ∷ with_element number x ys)
       by_test true rest = (le, all)
       by_test false rest = (all.0, rest)
 
-  inserted_rises : (x : X) (ys : List X) → Rises number ys → Rises number (inserted number x ys)
+  inserted_rises : (x : X) (ys : List X) → Rises number ys → Rises number (with_element number x ys)
   inserted_rises x [] up = (tt, tt)
   inserted_rises x (y ∷ ys) up = by_test (nat_le (number x) (number y)) refl (inserted_rises x ys up.1)
     where
-      by_test : (b : Bool) → nat_le (number x) (number y) ≡ b → Rises number (inserted number x ys) → Rises number (if b then x ∷ y ∷ ys else y ∷ inserted number x ys)
+      by_test : (b : Bool) → nat_le (number x) (number y) ≡ b → Rises number (with_element number x ys) → Rises number (if b then x ∷ y ∷ ys else y ∷ with_element number x ys)
       by_test true is rest =
           let le : number x ≤ number y = grind (arith, nat_tests) in
           ((le, all_above (number x) (number y) ys le up.0), up)

@@ -6,7 +6,7 @@ use Rattle.std.proofs.lemmas.List.{reverse-append}
 use Rattle.arimaa_board.specs.declared.piece.Color.{Color}
 use Rattle.arimaa_board.specs.declared.turn.NotedStep.{NotedStep}
 use Rattle.arimaa_board.specs.Setup.{Lineup}
-use Rattle.arimaa_notation.specs.Items.{is_blank, items_of, without_first_blanks, without_last_blanks, trimmed, word_of, after_word}
+use Rattle.arimaa_notation.specs.Items.{is_blank, items_of, without_first_blanks, without_last_blanks, without_outer_blanks, word_of, after_word}
 use Rattle.arimaa_notation.specs.Grammar.{IsTurnText, IsSetupText}
 use Rattle.arimaa_notation.proofs.Lemmas.ItemLaws.{items-blank, items-first, items-none, first-cut}
 
@@ -24,13 +24,13 @@ first_word bytes item items is = by_length (length (without_first_blanks bytes))
         (first, rest)
 
 -- a blank at the front is no part of a trimmed text
-pub trimmed-blank : (b : ℕ) (bs : List ℕ) → is_blank b ≡ true → trimmed (b ∷ bs) ≡ trimmed bs
+pub trimmed-blank : (b : ℕ) (bs : List ℕ) → is_blank b ≡ true → without_outer_blanks (b ∷ bs) ≡ without_outer_blanks bs
 trimmed-blank b bs blank =
     let front : prefix_len is_blank (b ∷ bs) ≡ suc (prefix_len is_blank bs) = rw blank (omega arith) in
     ap without_last_blanks (ap (λ n. drop n (b ∷ bs)) front)
 
 -- a text with no blank at its ends is trimmed
-pub trimmed-solid : (a z : ℕ) (middle : List ℕ) → is_blank a ≡ false → is_blank z ≡ false → trimmed ((a ∷ middle) ++ z ∷ []) ≡ (a ∷ middle) ++ z ∷ []
+pub trimmed-solid : (a z : ℕ) (middle : List ℕ) → is_blank a ≡ false → is_blank z ≡ false → without_outer_blanks ((a ∷ middle) ++ z ∷ []) ≡ (a ∷ middle) ++ z ∷ []
 trimmed-solid a z middle first last =
     let text = (a ∷ middle) ++ z ∷ [] in
     let front : prefix_len is_blank text ≡ 0 = rw first refl in

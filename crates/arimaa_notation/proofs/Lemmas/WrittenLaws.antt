@@ -14,7 +14,7 @@ use Rattle.arimaa_board.specs.declared.position.Step.{Step}
 use Rattle.arimaa_board.specs.declared.turn.NotedStep.{NotedStep}
 use Rattle.arimaa_board.specs.Piece.{letter_of, piece_of}
 use Rattle.arimaa_board.specs.Setup.{Lineup, IsLineup, squares_in, home_squares, first_home}
-use Rattle.arimaa_notation.specs.Written.{text_of_step, text_of_mark, text_of_entry, items_of_step, items_of_turn, items_of_entries, joined, with_item, text_of_turn}
+use Rattle.arimaa_notation.specs.Written.{text_of_step, text_of_mark, text_of_entry, items_of_step, items_of_turn, items_of_entries, items_text, with_item, text_of_turn}
 
 letter_within : (c : Color) (k : Kind) → (64 < letter_of (piece_of c k)) × (letter_of (piece_of c k) < 128)
 letter_within Gold Rabbit = (omega arith, omega arith)
@@ -56,7 +56,7 @@ abbrev FirstFilled : List (List ℕ) → Type 0
 FirstFilled [] = Unit {0}
 FirstFilled (item ∷ items) = 0 < length item
 
-with_item-joined : (items : List (List ℕ)) (item : List ℕ) → FirstFilled items → with_item (joined items) item ≡ joined (items ++ item ∷ [])
+with_item-joined : (items : List (List ℕ)) (item : List ℕ) → FirstFilled items → with_item (items_text items) item ≡ items_text (items ++ item ∷ [])
 with_item-joined [] item filled = sym (append-nil item)
 with_item-joined ([] ∷ items) item filled = absurd (omega arith)
 with_item-joined ((b ∷ bs) ∷ items) item filled =
@@ -70,12 +70,12 @@ first_of_more [] more filled = tt
 first_of_more (item ∷ items) more filled = filled
 
 -- items added one by one are joined
-joined-fold : (items more : List (List ℕ)) → FirstFilled (items ++ more) → fold with_item (joined items) more ≡ joined (items ++ more)
-joined-fold items [] filled = ap joined (sym (append-nil items))
+joined-fold : (items more : List (List ℕ)) → FirstFilled (items ++ more) → fold with_item (items_text items) more ≡ items_text (items ++ more)
+joined-fold items [] filled = ap items_text (sym (append-nil items))
 joined-fold items (item ∷ more) filled =
     let regrouped : (items ++ item ∷ []) ++ more ≡ items ++ (item ∷ more) = append_assoc items (item ∷ []) more in
     ap (λ x. fold with_item x more) (with_item-joined items item (first_of_more items (item ∷ more) filled))
-    ∙ (joined-fold (items ++ item ∷ []) more (subst FirstFilled (sym regrouped) filled) ∙ ap joined regrouped)
+    ∙ (joined-fold (items ++ item ∷ []) more (subst FirstFilled (sym regrouped) filled) ∙ ap items_text regrouped)
 
 turn_first : (ns : List NotedStep) (n : NotedStep) → FirstFilled (items_of_turn ns ++ items_of_step n)
 turn_first [] n = omega arith
@@ -85,15 +85,15 @@ turn_first (m ∷ ns) n = omega arith
 pub turn-more : (ns : List NotedStep) (n : NotedStep) → fold with_item (text_of_turn ns) (items_of_step n) ≡ text_of_turn (ns ++ n ∷ [])
 turn-more ns n =
     joined-fold (items_of_turn ns) (items_of_step n) (turn_first ns n)
-    ∙ ap joined (ap (λ x. items_of_turn ns ++ x) (sym (append-nil (items_of_step n))) ∙ sym (flat_map-append items_of_step ns (n ∷ [])))
+    ∙ ap items_text (ap (λ x. items_of_turn ns ++ x) (sym (append-nil (items_of_step n))) ∙ sym (flat_map-append items_of_step ns (n ∷ [])))
 
 entries_first : (es : List (ℕ × Piece)) → FirstFilled (items_of_entries es)
 entries_first [] = tt
 entries_first (e ∷ es) = omega arith
 
 -- one more entry of a setup
-pub entries-more : (es : List (ℕ × Piece)) (e : ℕ × Piece) → with_item (joined (items_of_entries es)) (text_of_entry e) ≡ joined (items_of_entries (es ++ e ∷ []))
-entries-more es e = with_item-joined (items_of_entries es) (text_of_entry e) (entries_first es) ∙ ap joined (sym (map-append text_of_entry es (e ∷ [])))
+pub entries-more : (es : List (ℕ × Piece)) (e : ℕ × Piece) → with_item (items_text (items_of_entries es)) (text_of_entry e) ≡ items_text (items_of_entries (es ++ e ∷ []))
+entries-more es e = with_item-joined (items_of_entries es) (text_of_entry e) (entries_first es) ∙ ap items_text (sym (map-append text_of_entry es (e ∷ [])))
 
 length-with_item : (t item : List ℕ) → length (with_item t item) ≤ length t + (1 + length item)
 length-with_item [] item = omega arith

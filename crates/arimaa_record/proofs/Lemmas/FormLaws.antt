@@ -34,7 +34,7 @@ use Rattle.arimaa_record.specs.declared.line.RecordLine.TheVariants as line
 use Rattle.arimaa_record.specs.declared.fault.LineFault.{LineFault}
 use Rattle.arimaa_record.specs.declared.fault.LineFault.TheVariants as fault
 use Rattle.arimaa_record.specs.Label.{IsLabel, label_of}
-use Rattle.arimaa_notation.specs.Items.{trimmed}
+use Rattle.arimaa_notation.specs.Items.{without_outer_blanks}
 use Rattle.arimaa_record.specs.Grammar.{IsStartForm, IsLabelled, HasForm, text_of_word, takeback_word, IsLineReading}
 use Rattle.arimaa_record.proofs.LabelLaws.{label_first, same_label}
 
@@ -73,7 +73,7 @@ same_start bytes l m x y a b =
     let next : IsFirstItem b.after a.item a.rest = subst (λ z. IsFirstItem z a.item a.rest) after a.next in
     let parts = same_first b.after a.item a.rest b.item b.rest next b.next in
     let named : IsLabel b.item l = subst (λ z. IsLabel z l) parts.0 a.named in
-    (same_label b.item l m named b.named, a.last ∙ (ap trimmed parts.1 ∙ sym b.last))
+    (same_label b.item l m named b.named, a.last ∙ (ap without_outer_blanks parts.1 ∙ sym b.last))
 
 -- a number for each form, as its first two items tell it
 content_kind : List (List ℕ) → ℕ

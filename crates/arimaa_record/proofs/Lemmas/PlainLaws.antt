@@ -18,7 +18,7 @@ use Rattle.arimaa_board.specs.Text.{letter_of_content, places_of, text_of, turne
 use Rattle.arimaa_board.specs.declared.ending.Word.{Word}
 use Rattle.arimaa_board.specs.declared.ending.Word.TheVariants.{Resigns, Time}
 use Rattle.arimaa_notation.specs.Items.{is_blank}
-use Rattle.arimaa_notation.specs.Written.{text_of_step, text_of_mark, text_of_entry, items_of_mark, items_of_step, items_of_turn, joined}
+use Rattle.arimaa_notation.specs.Written.{text_of_step, text_of_mark, text_of_entry, items_of_mark, items_of_step, items_of_turn, items_text}
 use Rattle.arimaa_notation.proofs.Lemmas.ReadingBack.{not_blank, dir_seen}
 use Rattle.arimaa_notation.proofs.Lemmas.WrittenLaws.{letter_seen}
 use Rattle.arimaa_record.specs.declared.label.Label.{Label}
@@ -27,7 +27,7 @@ use Rattle.arimaa_record.specs.declared.line.RecordLine.TheVariants as line
 use Rattle.arimaa_record.specs.Label.{label_of, letter_of_side, text_of_label}
 use Rattle.arimaa_record.specs.Grammar.{text_of_word, takeback_word}
 use Rattle.arimaa_record.specs.Lines.{is_feed, lines_of_pieces, lines_of}
-use Rattle.arimaa_record.specs.Written.{IsInRange, IsWritable, parts_of_line, spaced, text_of_line}
+use Rattle.arimaa_record.specs.Written.{IsInRange, IsWritable, parts_of_line, with_spaces_before, text_of_line}
 use Rattle.arimaa_record.proofs.Lemmas.LineLaws.{lines_of_pieces-cons}
 
 -- bytes above the space
@@ -132,13 +132,13 @@ parts_plain (line.Takeback number side) h = (plain_seen _ (label_seen (label_of 
     takeback_plain : IsPlain takeback_word
     takeback_plain = (omega arith, (omega arith, (omega arith, (omega arith, (omega arith, (omega arith, (omega arith, (omega arith, tt))))))))
 
-spaced_plain : (parts : List (List ℕ)) → AllByRecursion IsPlain parts → IsPlain (spaced parts)
+spaced_plain : (parts : List (List ℕ)) → AllByRecursion IsPlain parts → IsPlain (with_spaces_before parts)
 spaced_plain [] all = tt
-spaced_plain (x ∷ xs) all = all_append (λ b. 31 < b) (32 ∷ x) (spaced xs) (omega arith, all.0) (spaced_plain xs all.1)
+spaced_plain (x ∷ xs) all = all_append (λ b. 31 < b) (32 ∷ x) (with_spaces_before xs) (omega arith, all.0) (spaced_plain xs all.1)
 
-pub joined_plain : (parts : List (List ℕ)) → AllByRecursion IsPlain parts → IsPlain (joined parts)
+pub joined_plain : (parts : List (List ℕ)) → AllByRecursion IsPlain parts → IsPlain (items_text parts)
 joined_plain [] all = tt
-joined_plain (x ∷ xs) all = all_append (λ b. 31 < b) x (spaced xs) all.0 (spaced_plain xs all.1)
+joined_plain (x ∷ xs) all = all_append (λ b. 31 < b) x (with_spaces_before xs) all.0 (spaced_plain xs all.1)
 
 -- a written line has no byte that ends a line
 pub line_plain : (l : RecordLine) → IsWritable l → IsPlain (text_of_line l)

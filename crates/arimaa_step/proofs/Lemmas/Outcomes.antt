@@ -19,7 +19,7 @@ use Rattle.arimaa_model.specs.Moves.{after, after_to, target}
 use Rattle.arimaa_model.specs.Turns.{after_all, has_cutting, has_open_cutting, may_grow, is_turn}
 use Rattle.arimaa_model.specs.Relations.{IsTurn, GoesBack}
 use Rattle.arimaa_model.specs.Backward.{after_back, cuts_back, grows_back}
-use Rattle.arimaa_model.specs.Faults.{step_fault, turn_fault, unless, reached_by, applied, rule_of, ends_push, ends_pull}
+use Rattle.arimaa_model.specs.Faults.{step_fault, turn_fault, unless, reached_by, apply_result, rule_of, ends_push, ends_pull}
 use Rattle.arimaa_model.proofs.Lemmas.FaultLaws.{after_back-after_all, reverse-last}
 use Rattle.arimaa_model.proofs.Lemmas.Growing.{last_fits}
 use Rattle.arimaa_model.proofs.Lemmas.RelatedMoves.{goes_back-Decides}
@@ -146,7 +146,7 @@ module _ (p : Position) (steps : List Step) (few : length steps ≤ 4) (q : Posi
   )
 
   -- a turn is applied exactly to the position that it leads to
-  pub apply_law : (applied p steps ≡ Ok q) ↔ IsTurnTo p steps q
+  pub apply_law : (apply_result p steps ≡ Ok q) ↔ IsTurnTo p steps q
   apply_law = (
     λ h. let ok = applied_turn p steps q h in ended (ok.0, ok.1, ok.2) ok.3,
     λ h.

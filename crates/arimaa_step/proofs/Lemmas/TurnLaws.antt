@@ -12,7 +12,7 @@ use Rattle.arimaa_model.specs.declared.fault.StepFault.{StepFault}
 use Rattle.arimaa_model.specs.declared.fault.TurnFault.{TurnFault}
 use Rattle.arimaa_model.specs.declared.fault.TurnFault.TheVariants.{Unfinished, Same}
 use Rattle.arimaa_model.specs.Backward.{after_back, cuts_back, opens_back, grows_back}
-use Rattle.arimaa_model.specs.Faults.{step_fault, turn_fault, first_fault, first_fault_after, applied, judged_turn, reached_by}
+use Rattle.arimaa_model.specs.Faults.{step_fault, turn_fault, first_fault, first_fault_after, apply_result, judged_turn, reached_by}
 use Rattle.arimaa_model.proofs.Lemmas.FirstPlaces.{grows-rest}
 
 turned_over : (s : Step) (rest before : List Step) → reverse (s ∷ rest) ++ before ≡ reverse rest ++ (s ∷ before)
@@ -51,8 +51,8 @@ end_of_turn p (s ∷ before) h =
     (no_turn_fault b p.side s before inner.1 outer.1, inner.1)
 
 -- a turn is applied
-pub turn_applied : (p : Position) (steps : List Step) → length steps ≤ 4 → IsTrue (is_turn_back p (reverse steps)) → applied p steps ≡ Ok (reached_by p (reverse steps))
-unfolding applied
+pub turn_applied : (p : Position) (steps : List Step) → length steps ≤ 4 → IsTrue (is_turn_back p (reverse steps)) → apply_result p steps ≡ Ok (reached_by p (reverse steps))
+unfolding apply_result
 turn_applied p steps few h =
     let ends = end_of_turn p (reverse steps) h in
     let grows : grows_back p.board p.side (reverse steps ++ []) ≡ true = ap (grows_back p.board p.side) (append-nil (reverse steps)) ∙ or_left (cuts_back p.board p.side (reverse steps)) (opens_back p.board p.side (reverse steps)) ends.1 in
@@ -73,8 +73,8 @@ judged_ok None (Some e) q r h = absurd (cc)
 judged_ok None None q r h = (refl, cc)
 
 -- what is applied can be cut, changes the board, and reaches the board after its steps
-pub applied_turn : (p : Position) (steps : List Step) (q : Position) → applied p steps ≡ Ok q → (1 ≤ length (reverse steps)) × (cuts_back p.board p.side (reverse steps) ≡ true) × (not (same_squares (after_back p.board (reverse steps)) p.board) ≡ true) × (q ≡ reached_by p (reverse steps))
-unfolding applied
+pub applied_turn : (p : Position) (steps : List Step) (q : Position) → apply_result p steps ≡ Ok q → (1 ≤ length (reverse steps)) × (cuts_back p.board p.side (reverse steps) ≡ true) × (not (same_squares (after_back p.board (reverse steps)) p.board) ≡ true) × (q ≡ reached_by p (reverse steps))
+unfolding apply_result
 applied_turn p steps q h =
     let ok = judged_ok (first_fault p.board p.side steps) (turn_fault p.board p.side (reverse steps)) (reached_by p (reverse steps)) q h in
     let parts = decided_by p.board p.side (reverse steps) ok.0 in

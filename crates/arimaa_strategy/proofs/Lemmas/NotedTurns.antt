@@ -10,7 +10,7 @@ use Rattle.arimaa_board.specs.NotedTurns.{noted_turn, noted_marks}
 use Rattle.arimaa_model.specs.Results.{result_of}
 use Rattle.arimaa_model.specs.Marks.{marks_of, removed_by}
 use Rattle.arimaa_model.specs.Moves.{after}
-use Rattle.arimaa_model.specs.Faults.{applied, reached_by}
+use Rattle.arimaa_model.specs.Faults.{apply_result, reached_by}
 use Rattle.arimaa_model.specs.Turns.{is_turn}
 use Rattle.arimaa_model.specs.declared.fault.ApplyFault.{ApplyFault}
 use Rattle.arimaa_model.proofs.Lemmas.Listed.{result-turn}
@@ -55,12 +55,12 @@ marked-steps p r steps reached =
     omega arith
 
 -- and is not refused
-pub never_refused : (p r : Position) (steps : List Step) (Q : Type 0) → result_of p steps ≡ Some r → (e : ApplyFault) → applied p steps ≡ Err e → Q
+pub never_refused : (p r : Position) (steps : List Step) (Q : Type 0) → result_of p steps ≡ Some r → (e : ApplyFault) → apply_result p steps ≡ Err e → Q
 never_refused p r steps Q reached e refused =
     let turn = result-turn p steps r reached in
     let back : is_turn_back p (reverse steps) ≡ true = sym (is_turn-state p steps) ∙ turn in
     let fine = turn_applied p steps (few_steps p steps turn) back in
-    not_both (applied p steps) (reached_by p (reverse steps)) e fine refused
+    not_both (apply_result p steps) (reached_by p (reverse steps)) e fine refused
   where
     not_both : (o : Result Position ApplyFault) (x : Position) (e : ApplyFault) → o ≡ Ok x → o ≡ Err e → Q
     not_both o x e fine refused = cc

@@ -3,7 +3,7 @@ use Rattle.std.specs.Prelude.{IfOk}
 use Rattle.std.proofs.lemmas.Result.{IfOk-at_ok}
 use Rattle.arimaa_board.specs.declared.turn.NotedStep.{NotedStep}
 use Rattle.arimaa_board.specs.NotedTurns.{noted_marks, noted_turn}
-use Rattle.arimaa_model.specs.Faults.{applied}
+use Rattle.arimaa_model.specs.Faults.{apply_result}
 use Rattle.arimaa_model.specs.Marks.{marks_of}
 use Rattle.arimaa_model.specs.Results.{result_of}
 use Rattle.arimaa_model.proofs.Lemmas.Listed.{result-turn}
@@ -15,7 +15,7 @@ use Rattle.arimaa_strategy.proofs.Lemmas.NotedTurns.{never-err, never_refused, s
 pub unwrap-noted-requires : goal.unwrap-noted-requires
 unwrap-noted-requires c =
     let r = some_value (result_of c.args.p.now c.args.turn.now) c.requires in
-    never-err c.note.result (λ e. applied c.args.p.now c.args.turn.now ≡ Err e) c.note.ensures.refused (λ e refused. never_refused c.args.p.now r.0 c.args.turn.now ⊥ r.1 e refused)
+    never-err c.note.result (λ e. apply_result c.args.p.now c.args.turn.now ≡ Err e) c.note.ensures.refused (λ e refused. never_refused c.args.p.now r.0 c.args.turn.now ⊥ r.1 e refused)
 
 pub noted_said-requires : goal.noted_said-requires
 noted_said-requires c =

@@ -2,7 +2,7 @@ use Rattle.std.proofs.Common.{◌≡◌, ◌∙◌, List, Ok, ap, subst, sym, �
 use Rattle.arimaa_aei.specs.Commands.{command_of}
 use Rattle.arimaa_aei.specs.declared.command.Command.TheVariants as command
 use Rattle.arimaa_bot.specs.declared.bot_end.BotEnd.{BotEnd}
-use Rattle.arimaa_bot.specs.Calls.{HasEnded, told}
+use Rattle.arimaa_bot.specs.Calls.{HasEnded, told_by}
 use Rattle.arimaa_bot.specs.Talk.{IsReply, MatchReply}
 use Rattle.arimaa_bot.proofs.Dealing.{quit_ends, unheard_ends, unsent_ends, unthought_ends}
 use Rattle.arimaa_bot.proofs.session.deal.Goals as goal
@@ -27,7 +27,7 @@ returns-clause-dealt g c =
     let said : IsReply a s (command_of c.deref.result.now) c.in-Some.reply =
     subst (MatchReply a s (command_of c.deref.result.now)) c.in-Some.is c.in-Ok-respond.ensures.reply in
     let reply = subst (λ (line : List ℕ). IsReply a s (command_of line) c.in-Some.reply) c.deref.ensures.value said in
-    let old = told p.answers p.sent c.args.port.now in
-    let new = told p.answers p.sent c.send_reply.new.port in
+    let old = told_by p.answers p.sent c.args.port.now in
+    let new = told_by p.answers p.sent c.send_reply.new.port in
     subst (λ (e : BotEnd). HasEnded a s old new e) (sym c.end_of.ensures)
-    (unsent_ends a s old (told p.answers p.sent c.hear.new.port) c.hear.new.line.items c.in-Ok.ensures.heard new c.in-Some.reply reply c.in-Err-send_reply.fault c.in-Err-send_reply.ensures.sent)
+    (unsent_ends a s old (told_by p.answers p.sent c.hear.new.port) c.hear.new.line.items c.in-Ok.ensures.heard new c.in-Some.reply reply c.in-Err-send_reply.fault c.in-Err-send_reply.ensures.sent)

@@ -4,7 +4,7 @@ use Rattle.arimaa_meet.specs.declared.match_count.Counted.{Counted}
 use Rattle.arimaa_meet.specs.declared.match_report.Told.{Told}
 use Rattle.arimaa_meet.specs.Matches.{MeetMatch}
 use Rattle.arimaa_meet.specs.Report.{text_of_matches, text_of_table}
-use Rattle.arimaa_meet.specs.Scores.{counted}
+use Rattle.arimaa_meet.specs.Scores.{table_count}
 use Rattle.arimaa_meet.specs.Shares.{IsTold}
 use Rattle.arimaa_meet.proofs.ReportSteps.{any_match, counted_more, text_more, told_at, told_count}
 use Rattle.arimaa_meet.proofs.report.report.Goals as goal
@@ -37,8 +37,8 @@ returns c = λ ms zip.
     let whole = take_all c.matches.place ms (omega arith) in
     let text : c.matches.text.items ≡ text_of_matches 1 ms =
     c.matches.invariant.text ms zip ∙ ap (λ (l : List MeetMatch). text_of_matches 1 l) whole in
-    let counts : c.deref.result.now ≡ map counted ms =
-    c.deref.ensures.value ∙ (c.matches.invariant.counts ms zip ∙ ap (λ (l : List MeetMatch). map counted l) whole) in
+    let counts : c.deref.result.now ≡ map table_count ms =
+    c.deref.ensures.value ∙ (c.matches.invariant.counts ms zip ∙ ap (λ (l : List MeetMatch). map table_count l) whole) in
     c.in_ok-push_table.ensures
     ∙ (ap (λ (l : List ℕ). l ++ text_of_table c.args.programs c.deref.result.now) text
     ∙ ap (λ (l : List Counted). text_of_matches 1 ms ++ text_of_table c.args.programs l) counts)

@@ -5,7 +5,7 @@ use Rattle.arimaa_board.specs.declared.position.Position.{Position}
 use Rattle.arimaa_board.specs.NotedTurns.{noted_turn, noted_marks}
 use Rattle.arimaa_model.specs.Marks.{marks_of}
 use Rattle.arimaa_model.specs.Results.{result_of}
-use Rattle.arimaa_model.specs.Faults.{applied}
+use Rattle.arimaa_model.specs.Faults.{apply_result}
 use Rattle.arimaa_model.specs.Strategies.{entry_of, first_turn, result_at}
 use Rattle.arimaa_pool.specs.Terms.{Terms}
 use Rattle.arimaa_pool.proofs.Lemmas.EntryLaws.{reached-turn, written}
@@ -25,7 +25,7 @@ unwrap-turn-requires c =
 pub unwrap-requires : goal.unwrap-requires
 unwrap-requires c =
     let reached = MatchOption-at_some (Unit {0}) (λ steps. result_of c.args.q.now steps ≡ Some c.in_ok-reached.reached) c.unwrap-turn.result c.unwrap-turn.ensures c.first_turn.ensures.reaches in
-    never-err c.note.result (λ e. applied c.args.q.now c.unwrap-turn.result ≡ Err e) c.note.ensures.refused (λ e refused. never_refused c.args.q.now c.in_ok-reached.reached c.unwrap-turn.result ⊥ reached e refused)
+    never-err c.note.result (λ e. apply_result c.args.q.now c.unwrap-turn.result ≡ Err e) c.note.ensures.refused (λ e refused. never_refused c.args.q.now c.in_ok-reached.reached c.unwrap-turn.result ⊥ reached e refused)
 
 pub returns-clause-entry : goal.returns-clause-entry
 returns-clause-entry c =

@@ -3,7 +3,7 @@ use Rattle.std.proofs.lemmas.List.{map-append}
 use Rattle.arimaa_board.specs.declared.position.Position.{Position}
 use Rattle.arimaa_model.specs.Ranks.{IsRank, rank_within}
 use Rattle.arimaa_model.specs.Results.{first_occurrences}
-use Rattle.arimaa_model.specs.Strategies.{IsOpen, after_entry, met}
+use Rattle.arimaa_model.specs.Strategies.{IsOpen, after_entry, positions_met}
 use Rattle.arimaa_model.proofs.Lemmas.Members.{In}
 use Rattle.arimaa_model.proofs.Lemmas.Meeting.{all-ready, contained}
 use Rattle.arimaa_forced.specs.Needs.{IsAsked, InNeed}
@@ -16,7 +16,7 @@ use Rattle.arimaa_pool.proofs.NeededQuestions.{met-need, root-need}
 use Rattle.arimaa_pool.proofs.extraction.extract.Goals as goal
 
 -- the next of the queue is met
-next-met : (t : Terms) (n : ℕ) (p : Position) → IsRank t.attacker t.barred p n → (k : ℕ) (queue : List Position) → IsQueue t n p k queue → k < length queue → (q : Position) → q ≡ get_or queue k q → In q (met t.attacker t.barred n p n)
+next-met : (t : Terms) (n : ℕ) (p : Position) → IsRank t.attacker t.barred p n → (k : ℕ) (queue : List Position) → IsQueue t n p k queue → k < length queue → (q : Position) → q ≡ get_or queue k q → In q (positions_met t.attacker t.barred n p n)
 next-met t n p exact k queue is inside q here = queue-met t n p exact.won k queue is q (contained queue q k inside (sym here))
 
 pub returns-in_err-meet_first-clause-failure : goal.returns-in_err-meet_first-clause-failure

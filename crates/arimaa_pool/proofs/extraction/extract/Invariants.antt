@@ -1,5 +1,5 @@
 use Rattle.std.proofs.Common.{◌≡◌, ◌-◌, [], length, take, map}
-use Rattle.arimaa_model.specs.Strategies.{met}
+use Rattle.arimaa_model.specs.Strategies.{positions_met}
 use Rattle.arimaa_pool.specs.Extraction.{IsQueue, written_entry}
 use Rattle.arimaa_pool.proofs.extraction.extract.Given as goal
 
@@ -13,4 +13,4 @@ invariant-loop-played l = record {
 }
 
 abbrev pub decreases-loop-played : goal.decreases-loop-played
-decreases-loop-played l = length (met l.fn.asker.attacker l.fn.asker.barred l.rank l.p l.rank) - l.played
+decreases-loop-played l = length (positions_met l.fn.asker.attacker l.fn.asker.barred l.rank l.p l.rank) - l.played

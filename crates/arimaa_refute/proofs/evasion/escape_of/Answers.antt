@@ -4,7 +4,7 @@ use Rattle.std.proofs.lemmas.Option.{MatchOption-at_some, same_Some}
 use Rattle.arimaa_board.specs.NotedTurns.{noted_turn, noted_marks}
 use Rattle.arimaa_model.specs.Marks.{marks_of}
 use Rattle.arimaa_model.specs.Results.{result_of}
-use Rattle.arimaa_model.specs.Faults.{applied}
+use Rattle.arimaa_model.specs.Faults.{apply_result}
 use Rattle.arimaa_forced.specs.Entries.{steps_with_marks}
 use Rattle.arimaa_refute.specs.OwnEscapes.{first_evasion}
 use Rattle.arimaa_refute.specs.Refutations.{Terms}
@@ -20,7 +20,7 @@ unwrap-turn-requires c =
 pub unwrap-requires : goal.unwrap-requires
 unwrap-requires c =
     let reached = MatchOption-at_some (Unit {0}) (λ steps. result_of c.args.p.now steps ≡ Some c.in_ok-reached.reached) c.unwrap-turn.result c.unwrap-turn.ensures c.first_turn.ensures.reaches in
-    never-err c.note.result (λ e. applied c.args.p.now c.unwrap-turn.result ≡ Err e) c.note.ensures.refused (λ e refused. never_refused c.args.p.now c.in_ok-reached.reached c.unwrap-turn.result ⊥ reached e refused)
+    never-err c.note.result (λ e. apply_result c.args.p.now c.unwrap-turn.result ≡ Err e) c.note.ensures.refused (λ e refused. never_refused c.args.p.now c.in_ok-reached.reached c.unwrap-turn.result ⊥ reached e refused)
 
 pub returns-clause-escape : goal.returns-clause-escape
 returns-clause-escape c =

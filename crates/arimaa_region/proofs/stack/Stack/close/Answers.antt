@@ -1,7 +1,7 @@
 use Rattle.std.proofs.Common.{◌≡◌, ℕ, ◌-◌, suc, length, get_or, arith, subst, ap, sym, ◌∙◌}
 use Rattle.std.proofs.lemmas.List.{length-take-le}
 use Rattle.arimaa_region.specs.Index.{Indexed}
-use Rattle.arimaa_region.specs.Layout.{cut, IsSound}
+use Rattle.arimaa_region.specs.Layout.{segments_between, IsSound}
 use Rattle.arimaa_region.specs.Segments.{Stacked, below_top}
 use Rattle.arimaa_region.proofs.Cutting.{cut-shorter}
 use Rattle.arimaa_region.proofs.Sound.{IsSound-release, open_count}
@@ -27,6 +27,6 @@ returns g c =
     let first = get_or r.starts (r.open_segments - 1) 0 in
     let count : length c.truncate.new.self.buckets ≡ first =
     ap (λ (x : Indexed). length x.buckets) c.truncate.ensures ∙ length-take-le first r.index.buckets sound.rising.0 in
-    let lower : cut c.truncate-2.new.self.items r.starts (r.open_segments - 1) (length c.truncate.new.self.buckets) ≡ below_top (cut ps r.starts r.open_segments live) =
-    rw (c.truncate-2.ensures.items, count) (cut-shorter ps r.starts (r.open_segments - 1) first sound.rising.1) ∙ sym (ap (λ (n : ℕ). below_top (cut ps r.starts n live)) one_more) in
+    let lower : segments_between c.truncate-2.new.self.items r.starts (r.open_segments - 1) (length c.truncate.new.self.buckets) ≡ below_top (segments_between ps r.starts r.open_segments live) =
+    rw (c.truncate-2.ensures.items, count) (cut-shorter ps r.starts (r.open_segments - 1) first sound.rising.1) ∙ sym (ap (λ (n : ℕ). below_top (segments_between ps r.starts n live)) one_more) in
     (λ i. record { room = r.room; segments = lower i }) ∙ ap (λ (h : Stacked g.row.T.Denot). record h { segments = below_top h.segments }) c.self.view_is
