@@ -1,5 +1,5 @@
 #!/usr/bin/env bash
-# Judges a record of 64 MiB: one start line, and then a lawful game of some 4.7 million turns in which no
+# Judges a record of 64 MiB: one start line, and then a lawful game of some 4.95 million turns in which no
 # position stands twice. Prints the processor time and the peak memory of the program and of `wc -l`, and of
 # the yardstick, plain Rust that does the same, where it lies beside the repository. The line `memory judge VALUE`
 # gives the bytes that the program holds for a turn, 1 MiB left out for all else: the record is judged as it is read,

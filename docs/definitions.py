@@ -23,7 +23,7 @@ Every plain name that a contract cites, crate by crate, with its sentence and th
 
 How to read it. A board is the list of its 64 squares; a square is its number; a position, a step, a piece are plain records. A name in small letters is a value or a test that computes. A name that begins with a capital is a fact. `P`, `Q` stand for positions, `b` for a board, `s` and `t` for squares or steps, `a` for the attacker, `h` for a history. "The steps, the last one first" is a list that is read backward. A sentence continues the name: "`beats`: whether p is an enemy of q and stronger".
 
-The reader who wants the least to believe reads `Relations`, `Turns`, `Results`, `DecidedPositions`, `Game`, `Winning`, `Ranks` and `Strategies` of `arimaa_model`, `Lines` and `Grammar` of `arimaa_record`, and the definitions of `arimaa_judge` from its judgement down. The tests of the other modules decide these facts: `tests_are_the_rules` of `arimaa_model` has a clause for each.
+The reader who wants the least to believe reads `Relations`, `Turns`, `Results`, `DecidedPositions`, `Game`, `Winning`, `Ranks` and `Strategies` of `arimaa_model`, `Lines` and `Grammar` of `arimaa_record`, the definitions of `arimaa_judge`, for `prove` and `check` `Play` of `arimaa_forced`, for `refute` and `verify` `Escapes` of `arimaa_refute`, and `Calls`, `Commands` and the command's own module of `arimaa_cli`. The tests of the other modules decide these facts: `tests_are_the_rules` of `arimaa_model` has a clause for each.
 """
 
 ITEM = re.compile(r"(?:(?:abbrev|unfoldable)\s+)?pub\s+(?:(?:record|data)\s+)?([^\s:(]+)")
