@@ -3,8 +3,8 @@ use super::*;
 use arimaa_time::{Control, GameLimit, read_control};
 use std::test::Fail;
 
-/// The text of a control, and for each turn the milliseconds that it took and those in reserve then, or nothing where it
-/// was out of time.
+/// The text of a control, and for each turn the milliseconds that it took and those in reserve
+/// then, or nothing where it was out of time.
 const TURNS: [(&str, &[(u64, Option<u64>)]); 8] = [
     (
         "0:30/5/100/5/8/4",

@@ -6,8 +6,8 @@ use arimaa_time::{Control, GameLimit};
 use std::alloc::{AllocError, Global};
 use std::test::Fail;
 
-// Lines of info that an engine says first, the lines that it says then, the numbers of the calls that
-// fail, how the session opens, and how many lines were sent.
+// Lines of info that an engine says first, the lines that it says then, the numbers of the calls
+// that fail, how the session opens, and how many lines were sent.
 type OpenRow = (
     usize,
     &'static [&'static str],
@@ -168,7 +168,8 @@ fn openings(rt: HostRuntime) -> Result<(), Fail> {
     Ok(())
 }
 
-// Asks twice of an engine that names one move: the text, the name of the second fault, and the port.
+// Asks twice of an engine that names one move: the text, the name of the second fault, and the
+// port.
 fn asked_twice(
     alloc: Global,
     mut session: Session<MemPort>,

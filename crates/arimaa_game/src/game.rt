@@ -43,7 +43,8 @@ impl Model for Game {
 
     ghost view = { λ g. record { history = g.history; closing = g.closing } };
 
-    ghost invariant = { λ g. IsKept (record { history = g.history; closing = g.closing }) g.ending };
+    ghost invariant = { λ g.
+        IsKept (record { history = g.history; closing = g.closing }) g.ending };
 }
 
 impl Game {

@@ -12,7 +12,8 @@ type Steps<'a> = &'a [&'a [u8; 4]];
 
 type Answer = Result<Option<Ending>, GameFault>;
 
-// A game by its pieces and the side to move at its start, how it has ended then, and its turns with their answers.
+// A game by its pieces and the side to move at its start, how it has ended then, and its turns with
+// their answers.
 struct Row<'a> {
     pieces: &'a [&'a [u8; 3]],
     side: Color,
@@ -28,7 +29,8 @@ const OVER: Answer = Err(GameFault::Over);
 const GOES_ON: Answer = Ok(None);
 
 const ROWS: [Row<'static>; 12] = [
-    // elephants go to and fro; the start position would stand for the third time, and another turn may be played
+    // elephants go to and fro; the start position would stand for the third time, and another turn
+    // may be played
     Row {
         pieces: &[b"Ed4", b"Ra1", b"ed7", b"rh8"],
         side: Color::Gold,

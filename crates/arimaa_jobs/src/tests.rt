@@ -2,8 +2,8 @@
 use crate::Jobs;
 use std::test::Fail;
 
-// Each job is claimed once, the count of jobs ends the claims, and the least reported job is seen by
-// both seats.
+// Each job is claimed once, the count of jobs ends the claims, and the least reported job is seen
+// by both seats.
 #[test]
 fn two_seats(rt: HostRuntime) -> Result<(), Fail> {
     let (jobs, mut first) = Jobs::new(rt.alloc(), 2)?;

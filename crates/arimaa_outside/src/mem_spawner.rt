@@ -21,8 +21,8 @@ use std::marker::Model;
 use std::vec::IntoIter;
 
 /// A spawner that hands out these ports in order, whatever the program, and keeps those that it
-/// takes back. It tells both, and for which programs it was asked. A call of `open` fails where it is one that is to fail, and where no
-/// port is left.
+/// takes back. It tells both, and for which programs it was asked. A call of `open` fails where it
+/// is one that is to fail, and where no port is left.
 #[derive(Drop)]
 pub struct MemSpawner {
     alloc: Global,

@@ -161,7 +161,8 @@ fn a_real_output(rt: HostRuntime) -> Result<(), Fail> {
     Ok(())
 }
 
-// Lines with each end, a line as long as one may be, one that is longer, and the last without an end.
+// Lines with each end, a line as long as one may be, one that is longer, and the last without an
+// end.
 #[test]
 fn a_real_port(rt: HostRuntime) -> Result<(), Fail> {
     let alloc = rt.alloc();

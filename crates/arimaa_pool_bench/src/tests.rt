@@ -47,8 +47,8 @@ fn is_entry(
     Ok(entry.position == position && entry.rank == rank && entry.turn.steps().len() == steps)
 }
 
-// Where the silver rabbit stands after each reply that has an entry: h5, g6, h4, g5, h3, g4, f5, h2, g3,
-// f4 and e5.
+// Where the silver rabbit stands after each reply that has an entry: h5, g6, h4, g5, h3, g4, f5,
+// h2, g3, f4 and e5.
 const REPLIES: [u8; 11] = [39, 46, 31, 38, 23, 30, 37, 15, 22, 29, 36];
 
 // Whether each of these replies has an entry, in this order, that leads the rabbit on a4 home.
@@ -61,8 +61,8 @@ fn are_replies_answered(strategy: &Strategy) -> Result<bool, Fail> {
     Ok(true)
 }
 
-// Whether the verdict is a win in three turns: the rabbit goes to a4, and home from there after each
-// reply. The reply in which the silver rabbit dies on f6 has no entry.
+// Whether the verdict is a win in three turns: the rabbit goes to a4, and home from there after
+// each reply. The reply in which the silver rabbit dies on f6 has no entry.
 fn is_home_in_three(verdict: &Verdict) -> Result<bool, Fail> {
     match verdict {
         Verdict::Yes { rank, strategy } => Ok(
@@ -100,8 +100,8 @@ fn any_number_of_workers(rt: HostRuntime) -> Result<(), Fail> {
     Ok(())
 }
 
-// Two workers are at work at once: each of the first two jobs waits for the other. One that asked all
-// jobs would starve the gate.
+// Two workers are at work at once: each of the first two jobs waits for the other. One that asked
+// all jobs would starve the gate.
 #[test]
 fn two_workers_meet(rt: HostRuntime) -> Result<(), Fail> {
     let settings = Settings {
@@ -117,9 +117,9 @@ fn two_workers_meet(rt: HostRuntime) -> Result<(), Fail> {
     Ok(())
 }
 
-// Two workers ask the jobs in turn, and job 5, the position after Ra4, costs 123. Nine of its leaves
-// were met in lower jobs, two of them by its own worker alone and seven by the other one: so 115
-// questions are enough only where both workers share one table.
+// Two workers ask the jobs in turn, and job 5, the position after Ra4, costs 123. Nine of its
+// leaves were met in lower jobs, two of them by its own worker alone and seven by the other one: so
+// 115 questions are enough only where both workers share one table.
 #[test]
 fn lines_serve_the_other_worker(rt: HostRuntime) -> Result<(), Fail> {
     let settings = Settings {

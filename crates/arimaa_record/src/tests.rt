@@ -60,8 +60,8 @@ const RECORDS: [(&[u8], &[u8]); 8] = [
     (b"3g\r\n\n# end\r\n3s", b"3g\n\n\n3s\n"),
 ];
 
-// Inputs with a fault: the number of the first faulty line, what is wrong with it, and the number of
-// its label, or 0.
+// Inputs with a fault: the number of the first faulty line, what is wrong with it, and the number
+// of its label, or 0.
 const FAULTS: [(&[u8], u64, &str, u32); 32] = [
     (b"0g", 1, "text", 0),
     (b"01g", 1, "text", 0),

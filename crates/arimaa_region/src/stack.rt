@@ -41,7 +41,8 @@ impl<T: Key> Model for Stack<T> {
       segments = segments_between r.places.items r.starts r.open_segments (length r.index.buckets);
     } };
 
-    ghost invariant = { λ r. (IsSound T.hash_of r.room r.open_segments r.places.items r.index r.starts)
+    ghost invariant = { λ r.
+        (IsSound T.hash_of r.room r.open_segments r.places.items r.index r.starts)
         × (r.room ≤ vec_capacity r.places) };
 }
 

@@ -86,7 +86,8 @@ fn rabbit_on(square: u8) -> Result<Position, Fail> {
     Ok(p)
 }
 
-// Asserts that a region lists what a rabbit on a1 brings about, in turn order; 64 stands for the turn to c3.
+// Asserts that a region lists what a rabbit on a1 brings about, in turn order; 64 stands for the
+// turn to c3.
 fn rabbit_listed(rt: &impl Abort, region: &Region) -> Result<(), Fail> {
     assert_eq!(rt; region.live(), 14);
     let squares = [8, 1, 16, 9, 2, 24, 17, 10, 3, 32, 25, 64, 11, 4];

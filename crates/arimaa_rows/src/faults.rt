@@ -1,4 +1,5 @@
-//! What `prove` and `judge` do where a read or a write fails, and with inputs at the limit of their size.
+//! What `prove` and `judge` do where a read or a write fails, and with inputs at the limit of their
+//! size.
 use crate::runs::{Outside, run, spaces};
 use arimaa_outside::Status;
 use std::test::Fail;

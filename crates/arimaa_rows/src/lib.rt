@@ -1,5 +1,5 @@
-//! Worked examples: what the commands answer to words and inputs that were worked out by hand from the
-//! rules, and what they do where the outside fails. There is nothing here but tests.
+//! Worked examples: what the commands answer to words and inputs that were worked out by hand from
+//! the rules, and what they do where the outside fails. There is nothing here but tests.
 #![tactic(auto)]
 
 #[cfg(test)]

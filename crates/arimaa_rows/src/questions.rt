@@ -3,7 +3,8 @@
 //! What is expected was worked out by a plain program that is no part of this repository: it lists
 //! the next positions of a position step by step, asks the definition with no table, counts every
 //! question, and names the first one that is above the budget or the room. Each question stands
-//! beside the same one with the colours changed. What `prove` answers with yes is handed to `check`.
+//! beside the same one with the colours changed. What `prove` answers with yes is handed to
+//! `check`.
 use crate::runs::{Outside, Row, check, refuse_all, run};
 use arimaa_outside::Status;
 use std::alloc::{AllocError, Global};

@@ -1,4 +1,5 @@
-//! What `prove` answers over one start line, what `control` and `make` answer, and words out of form.
+//! What `prove` answers over one start line, what `control` and `make` answer, and words out of
+//! form.
 use crate::runs::{Row, check, refuse_all};
 use arimaa_outside::Status;
 use std::test::Fail;
@@ -249,7 +250,8 @@ const ROWS: [Row<'static>; 36] = [
         output: "turns 3\nbytes 208\nnext 3s\n",
         status: Status::Done,
     },
-    // the game ends before so many turns are made: its values are those of the generator in plain Rust
+    // the game ends before so many turns are made: its values are those of the generator in plain
+    // Rust
     Row {
         words: "make 7 100",
         input: "",

@@ -3,8 +3,8 @@ use crate::runs::{Change, Row, check, check_changes, check_cut_off, refuse_all};
 use arimaa_outside::Status;
 use std::test::Fail;
 
-// A record, and a strategy for Gold of twelve entries: its rabbit goes to a4, and then to a8 whatever
-// the silver rabbit does.
+// A record, and a strategy for Gold of twelve entries: its rabbit goes to a4, and then to a8
+// whatever the silver rabbit does.
 const RUN: [&str; 14] = [
     "start 2g [                       r                                R       ]",
     "strategy",

@@ -1,4 +1,5 @@
-//! Words outside the plain form: what the same words in the plain form are answered, or `bad words`.
+//! Words outside the plain form: what the same words in the plain form are answered, or `bad
+//! words`.
 use crate::runs::{Row, check, refuse_all};
 use arimaa_outside::Status;
 use std::test::Fail;

@@ -61,7 +61,8 @@ pub(crate) fn remember(
     requires pass { IsPassOf table.now pass.old }
     requires inside { place < lines_of table.now }
     requires depth { depth ≤ 20 }
-    requires verdict { verdict ≡ wins (setting_of table.now).attacker (setting_of table.now).barred depth p.now }
+    requires verdict { verdict
+        ≡ wins (setting_of table.now).attacker (setting_of table.now).barred depth p.now }
     ensures pass { IsPassOf table.now pass.new }
     ensures later { KeepsNoOlder pass.old pass.new }
     ensures grown { NoFewer (steps_of pass.old) (steps_of pass.new) }

@@ -42,8 +42,9 @@ fn asked_anew(alloc: Global, lines: u32, budget: u64) -> Result<(Asked, u64), Fa
     Ok((answer, worker.counted()))
 }
 
-// With one line no question is met again in it, and each of the 215 is opened. With 65,536 lines those
-// at depth 0 that differ in the gold rabbit alone are met again, and at most ten of them are lost.
+// With one line no question is met again in it, and each of the 215 is opened. With 65,536 lines
+// those at depth 0 that differ in the gold rabbit alone are met again, and at most ten of them are
+// lost.
 #[test]
 fn lines_serve_inner_questions(rt: HostRuntime) -> Result<(), Fail> {
     let spent = |counted: u64| -> Result<Asked, Fail> {

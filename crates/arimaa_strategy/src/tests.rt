@@ -27,8 +27,8 @@ const RUN: [Row; 12] = [
     (b"1", b"Ra4 re5", b"Ra4n Ra5n Ra6n Ra7n"),
 ];
 
-// The pieces of a root with Gold to move, a number of turns, entries for Gold, and what is found: the rank and
-// no fault, or the entry and its fault.
+// The pieces of a root with Gold to move, a number of turns, entries for Gold, and what is found:
+// the rank and no fault, or the entry and its fault.
 const SMALL: [(&[u8], u8, &[Row], u64, Option<Why>); 18] = [
     (
         b"Ra7 Ed4 rh7",
@@ -280,8 +280,9 @@ fn small_strategies(rt: HostRuntime) -> Result<(), Fail> {
     Ok(())
 }
 
-// Of the run from a root: the number of entries left out at its front, one entry that is put in the place of
-// another, with its rank, a number of turns, and what is found. Without its first entry the root is its reply.
+// Of the run from a root: the number of entries left out at its front, one entry that is put in the
+// place of another, with its rank, a number of turns, and what is found. Without its first entry
+// the root is its reply.
 const RUNS: [(usize, usize, usize, &[u8], u8, u64, Option<Why>); 9] = [
     (0, 0, 0, b"3", 3, 3, None),
     (0, 0, 0, b"3", 2, 0, Some(Why::Deep)),
