@@ -3,7 +3,8 @@
 # nothing, and `prove SIDE 1` where it answers no. Where a yardstick in plain Rust lies in ../shared/yardstick beside the
 # repository, its records are taken, its lists are timed in the same run, and lines `ratio NAME VALUE` give the project's
 # speed over the yardstick's list (more is faster). Each figure is the least processor time of some interleaved runs, each
-# of which makes so many lists or walks that the start of the program counts for little.
+# of which makes so many lists or walks that the start of the program counts for little. Before it is timed, the list by
+# layers is compared with the walk's, place by place; where they differ the script ends with status 1.
 #
 #   bench/results.sh [NAME..]
 #
@@ -90,6 +91,7 @@ for path in "$records"/*.txt; do
   [ $# -eq 0 ] || [[ " $* " == *" $name "* ]] || continue
   { IFS= read -r side; IFS= read -r board; } < <(position "$path")
   places=$("$bench" list "$side" "$board" 1 | awk '{ print $2 }')
+  "$bench" agree "$side" "$board" | grep -q '^agree true' || { echo "the layers and the walk differ: $name"; exit 1; }
   lists=$(rounds_for list)
   walks=$(rounds_for walk)
   asked=

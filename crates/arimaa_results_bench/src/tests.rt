@@ -76,6 +76,22 @@ fn unsettled_start(rt: HostRuntime) -> Result<(), Fail> {
     Ok(())
 }
 
+// Start boards on which the first step bears on a piece that stands on a trap without a friend.
+#[test]
+fn unsettled_first_step(rt: HostRuntime) -> Result<(), Fail> {
+    // each first step of the elephant takes it off its trap, which frees the cat
+    let text = "[r                           E                     C            R]";
+    let mut freed = position(text, Color::Gold)?;
+    freed.board.put(Square::C3, Piece::from_letter(b'e'));
+    assert_eq!(rt; listed_alike(&rt, &freed)?, 619);
+    // the camel is saved where it leaves its trap first
+    let text = "[       r                                    e           R       ]";
+    let mut saved = position(text, Color::Silver)?;
+    saved.board.put(Square::F6, Piece::from_letter(b'm'));
+    assert_eq!(rt; listed_alike(&rt, &saved)?, 623);
+    Ok(())
+}
+
 // The position that Gold's rabbit brings about on a square, or off the board.
 fn rabbit_on(square: u8) -> Result<Position, Fail> {
     let text = "[                       r                                        ]";

@@ -22,7 +22,7 @@ struct Question<'a> {
 }
 
 // Questions of at most two turns that matter, of both attackers.
-const SHALLOW: [Question<'static>; 30] = [
+const SHALLOW: [Question<'static>; 34] = [
     // a rabbit goes home; then the same for Silver
     Question {
         words: "prove gold 1",
@@ -249,6 +249,37 @@ const SHALLOW: [Question<'static>; 30] = [
         first: "yes 2",
         entries: 1,
         status: Status::Done,
+    },
+    // of 87 replies one alone keeps the rabbit from its goal row, and it would make a position stand
+    // for the third time
+    Question {
+        words: "prove gold 2",
+        start: "start 2s [   e    RC      r                                              E]\n2s ed8w ec8w eb8w\n3g Eh1w\n3s ea8e eb8e ec8e\n4g Eg1e\n4s ed8w ec8w eb8w\n5g Eh1n\n5s ea8e eb8e ec8e ed8e\n6g Eh2s\n",
+        first: "yes 2",
+        entries: 86,
+        status: Status::Done,
+    },
+    Question {
+        words: "prove silver 2",
+        start: "start 2g [       e                                R       rc         E    ]\n2g Ed1w Ec1w Eb1w\n2s eh8w\n3g Ea1e Eb1e Ec1e\n3s eg8e\n4g Ed1w Ec1w Eb1w\n4s eh8s\n5g Ea1e Eb1e Ec1e Ed1e\n5s eh7n\n",
+        first: "yes 2",
+        entries: 86,
+        status: Status::Done,
+    },
+    // without that history it may be played
+    Question {
+        words: "prove gold 2",
+        start: "start 6s [    e   RC      r                                              E]\n",
+        first: "no",
+        entries: 0,
+        status: Status::Answered,
+    },
+    Question {
+        words: "prove silver 2",
+        start: "start 6g [       e                                R       rc          E   ]\n",
+        first: "no",
+        entries: 0,
+        status: Status::Answered,
     },
 ];
 
