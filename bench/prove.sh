@@ -2,6 +2,8 @@
 # Measures the prover on some questions: questions opened a second on one worker, with every question
 # counted, then the seconds with 1, 2 and 4 workers. Where a yardstick in plain Rust lies in
 # ../shared/yardstick beside the repository, its speed on the same questions is measured in the same run.
+# On one worker both programs say themselves how long the asking took, the making of their memory included:
+# the yardstick is started by a script, whose own time would count for as much as a short question.
 # Lines `ratio NAME VALUE` give the project's questions a second over the yardstick's on one worker,
 # `ratio efficiency_N_NAME VALUE` the seconds of one worker over N times those of N workers, and
 # `ratio work_N_NAME VALUE` the processor time of one worker over that of N workers together: below 1 where
@@ -30,9 +32,9 @@ question() {
   mark=$([ "$mover" = gold ] && echo 2g || echo 2s)
   echo "start $mark $board" >"$record"
   for _ in $(seq "$rounds"); do
-    echo "one $(seconds "$bench" count "$mover" "$attacker" "$depth" 1 "$lines" "$board") $(awk '/^questions/ { print $2 }' "$record.out")"
+    "$bench" count "$mover" "$attacker" "$depth" 1 "$lines" "$board" | awk '/^questions/ { print "one", $4 / 1e9, 0, $2 }'
     if [ -x "$yardstick" ]; then
-      echo "yardstick $(seconds "$yardstick" prove "$attacker" "$depth" 1 "$lines") $(awk '/opened/ { print $4 }' "$record.out")"
+      "$yardstick" prove "$attacker" "$depth" 1 "$lines" <"$record" | awk '/opened/ { print "yardstick", $4 / $7, 0, $4 }'
     fi
     for workers in 1 2 4; do
       echo "workers$workers $(seconds "$bench" prove "$mover" "$attacker" "$depth" "$workers" "$lines" "$board")"
@@ -45,12 +47,12 @@ question() {
     $1 == "yardstick" { theirs = $4 }
     function max(a, b) { return a > b ? a : b }
     END {
-      one = max(least["one"], 0.001)
-      printf "%s: %d questions, %.3f processor seconds on one worker, %.0f questions a second\n", name, opened, one, opened / one
+      one = least["one"]
+      printf "%s: %d questions, %.4f seconds on one worker, %.0f questions a second\n", name, opened, one, opened / one
       printf "  seconds with 1, 2 and 4 workers: %.3f, %.3f, %.3f\n", least["workers1"], least["workers2"], least["workers4"]
       if ("yardstick" in least) {
-        other = max(least["yardstick"], 0.001)
-        printf "  yardstick: %d questions, %.3f processor seconds, %.0f a second\n", theirs, other, theirs / other
+        other = least["yardstick"]
+        printf "  yardstick: %d questions, %.4f seconds, %.0f a second\n", theirs, other, theirs / other
         printf "ratio prove_%s %.3f\n", name, (opened / one) / (theirs / other)
       }
       printf "ratio efficiency_2_%s %.3f\n", name, least["workers1"] / max(2 * least["workers2"], 0.001)
