@@ -1,3 +1,4 @@
+pub mod AtEase
 pub mod FirstReplies
 pub mod Leaves
 pub mod Lemmas

@@ -1,3 +1,4 @@
+pub mod AtEase
 pub mod Workers
 pub mod PaidAnswers
 pub mod Questions

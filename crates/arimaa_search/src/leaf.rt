@@ -4,8 +4,8 @@ ghost use Rattle.arimaa_model.specs.DecidedPositions.{decided};
 ghost use Rattle.arimaa_model.specs.Wins.{wins};
 ghost use Rattle.arimaa_table.specs.Passes.{setting_of};
 
+use crate::at_ease::has_next;
 use arimaa_board::Position;
-use arimaa_results::any_result;
 use arimaa_table::Table;
 
 /// Whether the attacker wins an undecided position within no turn: just where the other side is to
@@ -17,5 +17,5 @@ pub(crate) fn leaf(table: &Table, p: &Position) -> bool
     if p.side == table.attacker() {
         return false;
     }
-    !any_result(p, table.barred())
+    !has_next(p, table.barred())
 }

@@ -2,6 +2,7 @@
 #![tactic(auto)]
 
 mod answer;
+mod at_ease;
 mod first_reply;
 mod leaf;
 mod line;

@@ -18,4 +18,4 @@ returns c =
     let a = (setting_of c.args.table.now).attacker in let barred = (setting_of c.args.table.now).barred in
     let same : c.eq.result ≡ same_color c.args.p.now.side c.attacker.result = search rules in
     let other : same_color c.args.p.now.side a ≡ false = ap (same_color c.args.p.now.side) (sym c.attacker.ensures) ∙ (sym same ∙ c.if-eq.false) in
-    not-some c.any_result.result (next c.barred.result.now c.args.p.now) c.any_result.ensures ∙ (ap (λ qs. is_nil (next qs c.args.p.now)) c.barred.ensures ∙ sym (other_leaf a barred c.args.p.now c.requires other))
+    not-some c.has_next.result (next c.barred.result.now c.args.p.now) c.has_next.ensures ∙ (ap (λ qs. is_nil (next qs c.args.p.now)) c.barred.ensures ∙ sym (other_leaf a barred c.args.p.now c.requires other))
