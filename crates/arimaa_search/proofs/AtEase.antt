@@ -1,25 +1,23 @@
 -- A piece at ease that goes makes a turn of one step.
-use Rattle.std.proofs.Common.{◌≡◌, ◌≢◌, ℕ, ◌+◌, ◌<◌, ◌≤◌, ◌&&◌, Bool, true, false, List, [], ◌∷◌, length, Option, None, Some, refl, sym, ◌∙◌, ap, arith, true≢false, eq-eqb, ⊎_elim}
-use Rattle.std.specs.Prelude.{◌||◌, not, is_some, is_none}
-use Rattle.std.specs.List.{list_any, filter}
-use Rattle.std.proofs.lemmas.Bool.{and_parts, or_cases, false_from_ne_true}
+use Rattle.std.proofs.Common.{◌≡◌, ◌≢◌, ℕ, ◌<◌, ◌≤◌, ◌&&◌, true, false, List, [], ◌∷◌, length, Option, None, Some, refl, sym, ◌∙◌, ap, arith, true≢false, eq-eqb, ⊎_elim}
+use Rattle.std.specs.Prelude.{◌||◌, not, is_some}
+use Rattle.std.specs.List.{filter}
+use Rattle.std.proofs.lemmas.Bool.{and_parts, or_cases}
 use Rattle.arimaa_board.specs.declared.board.Board.{Board}
 use Rattle.arimaa_board.specs.declared.piece.Color.{Color}
 use Rattle.arimaa_board.specs.declared.piece.Color.TheVariants.{Gold, Silver}
-use Rattle.arimaa_board.specs.declared.piece.Kind.{Kind}
 use Rattle.arimaa_board.specs.declared.piece.Kind.TheVariants.{Rabbit}
 use Rattle.arimaa_board.specs.declared.piece.Piece.{Piece}
 use Rattle.arimaa_board.specs.declared.position.Position.{Position}
 use Rattle.arimaa_board.specs.declared.position.Step.{Step}
 use Rattle.arimaa_board.specs.declared.square.Dir.{Dir}
-use Rattle.arimaa_board.specs.Board.{at, same_color, holds, holds_color}
+use Rattle.arimaa_board.specs.Board.{at, holds, holds_color}
 use Rattle.arimaa_board.specs.ColorLaws.{same_color-Decides}
-use Rattle.arimaa_board.specs.Masks.{is_beside, passes}
+use Rattle.arimaa_board.specs.Masks.{passes}
 use Rattle.arimaa_board.specs.Piece.{code_of, other_color, piece_of}
 use Rattle.arimaa_board.specs.Square.{next_square}
-use Rattle.arimaa_model.specs.Frozen.{is_frozen}
-use Rattle.arimaa_model.specs.Moves.{after, goes_back, is_back, is_free, is_rabbit, is_single, fits, is_own}
-use Rattle.arimaa_model.specs.Relations.{IsFrozen, IsSingle, IsTurn, StandsBeside, Fits, GoesBack}
+use Rattle.arimaa_model.specs.Moves.{after, is_back, is_rabbit}
+use Rattle.arimaa_model.specs.Relations.{IsFrozen, IsSingle, IsTurn, StandsBeside, Fits}
 use Rattle.arimaa_model.specs.Results.{next, results, stands_in, step_of, position_of}
 use Rattle.arimaa_search.specs.AtEase.{is_beside_color, is_at_ease, goes_at_ease}
 use Rattle.arimaa_board.specs.Board.{put, moved, kept, settle}

@@ -26,9 +26,9 @@ IsVerdict No = Unit {0}
 IsVerdict (Spent q m k) = ⊥
 IsVerdict (Crowded q m) = ⊥
 
--- the line gives the answer, where it is yes or no
+-- the line gives the answer, which is yes or no unless the budget is spent
 abbrev pub IsTold : Line → Position → ℕ → Asked → Type 0
 IsTold line p n Yes = Tells line p n true
 IsTold line p n No = Tells line p n false
 IsTold line p n (Spent q m k) = Unit {0}
-IsTold line p n (Crowded q m) = Unit {0}
+IsTold line p n (Crowded q m) = ⊥

@@ -1,5 +1,6 @@
 -- What a pass keeps, and where it made steps.
 use Rattle.std.specs.Prelude.{◌≡◌, ℕ, ◌<◌, ◌≤◌, Bool, true, false, List, ◌∷◌, drop, IsSomeAnd}
+use Rattle.std.specs.Prelude.{Result, Ok, Err}
 use Rattle.arimaa_board.specs.declared.piece.Color.{Color}
 use Rattle.arimaa_board.specs.declared.position.Position.{Position}
 use Rattle.arimaa_model.specs.Members.{Stands}
@@ -9,6 +10,8 @@ use Rattle.arimaa_line.specs.declared.bounds.Bounds.{Bounds}
 use Rattle.arimaa_line.specs.declared.line.Line.{Line}
 use Rattle.arimaa_line.specs.Lines.{IsLineOf}
 use Rattle.arimaa_line.specs.Index.{place_of}
+use Rattle.arimaa_search.specs.declared.stop.Stop.{Stop}
+use Rattle.arimaa_search.specs.declared.stop.Stop.TheVariants as stop
 
 -- the bounds give this verdict at this depth
 abbrev pub Give : Bounds → ℕ → Bool → Type 0
@@ -21,6 +24,18 @@ pub record Tells (line : Line) (p : Position) (depth : ℕ) (verdict : Bool) : T
   pub said : IsLineOf line bounds
   pub position : bounds.position ≡ p
   pub verdict_given : Give bounds depth verdict
+
+-- the line gives the verdict that is answered, if one is; no answer says that the region is too small
+abbrev pub IsToldBy : Line → Position → ℕ → Result Bool Stop → Type 0
+IsToldBy line p depth (Ok v) = Tells line p depth v
+IsToldBy line p depth (Err stop.Spent) = Unit {0}
+IsToldBy line p depth (Err stop.Crowded) = ⊥
+
+-- the question was opened, and what is left of the budget fell, unless all of it was spent before
+abbrev pub IsOpened : ℕ → ℕ → Result Bool Stop → Type 0
+IsOpened left after (Ok v) = after < left
+IsOpened left after (Err stop.Spent) = Unit {0}
+IsOpened left after (Err stop.Crowded) = after < left
 
 -- of that many lines, the pass made steps at the one of the position
 abbrev pub Stepped : ℕ → (ℕ → ℕ) → (ℕ → ℕ) → Position → Type 0

@@ -8,7 +8,7 @@ ghost use Rattle.arimaa_results.specs.ListsToWin.{IsListed, is_won_by};
 ghost use Rattle.arimaa_line.specs.Index.{place_of};
 ghost use Rattle.arimaa_table.specs.Passes.{lines_of, setting_of, steps_of, place_view, IsPassOf, KeepsNoOlder, NoFewer};
 ghost use Rattle.arimaa_search.specs.PaidAnswers.{Answered};
-ghost use Rattle.arimaa_search.specs.Traces.{GoesPast, Stepped, SteppedThrough, Tells};
+ghost use Rattle.arimaa_search.specs.Traces.{GoesPast, IsOpened, IsToldBy, Stepped, SteppedThrough};
 
 use crate::first_reply::first_reply;
 use crate::leaf::leaf;
@@ -42,8 +42,8 @@ pub(crate) fn ask(
     ensures room { region.new.room ≡ region.old.room }
     ensures here { Stepped (lines_of table.now) (steps_of pass.old) (steps_of pass.new) p.now }
     ensures told { left.new ≡ left.old
-        → IfOk result (λ v. Tells
-        (place_view pass.new (place_of p.now (lines_of table.now))).kept p.now depth v) }
+        → IsToldBy (place_view pass.new (place_of p.now (lines_of table.now))).kept p.now depth
+        result }
     ensures replies { left.new < left.old → decided p.now ≡ None → 1 ≤ depth
         → OnOk result (SteppedThrough (setting_of table.now).attacker (setting_of table.now).barred
         (lines_of table.now) (depth - 1) p.now (steps_of pass.old) (steps_of pass.new)) }
@@ -78,7 +78,7 @@ fn open_up(
     ensures grown { NoFewer (steps_of pass.old) (steps_of pass.new) }
     ensures segments { region.new.segments ≡ region.old.segments }
     ensures room { region.new.room ≡ region.old.room }
-    ensures counted { OnOk result (left.new < left.old) }
+    ensures opened { IsOpened left.old left.new result }
     ensures replies { left.new < left.old → decided p.now ≡ None → 1 ≤ depth
         → OnOk result (SteppedThrough (setting_of table.now).attacker (setting_of table.now).barred
         (lines_of table.now) (depth - 1) p.now (steps_of pass.old) (steps_of pass.new)) }

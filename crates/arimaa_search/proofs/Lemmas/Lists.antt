@@ -1,11 +1,11 @@
 -- The places of the top segment.
-use Rattle.std.proofs.Common.{◌≡◌, ℕ, ◌+◌, ◌≤◌, ◌<◌, List, [], ◌∷◌, ◌++◌, length, drop, Some, ◌∙◌, refl, sym, ap, arith, length-append, drop-drop}
+use Rattle.std.proofs.Common.{◌≡◌, ℕ, ◌+◌, ◌≤◌, List, [], ◌∷◌, ◌++◌, length, drop, Some, ◌∙◌, sym, ap, arith, length-append, drop-drop}
 use Rattle.std.specs.List.{slice_get}
 use Rattle.std.proofs.Math.Seq.{drop-append_seam}
 use Rattle.std.proofs.Math.ListN.{drop_of_length-le}
 use Rattle.std.proofs.lemmas.List.{drop_more}
 use Rattle.std.proofs.lemmas.Option.{get_or_from_slice_get, slice_get_within}
-use Rattle.arimaa_region.specs.Segments.{live_of, below_top, top}
+use Rattle.arimaa_region.specs.Segments.{live_of, below_top}
 
 module _ {X : Type 0} where
   -- they come after those of the segments below

@@ -1,8 +1,7 @@
 use Rattle.std.proofs.Common.{ℕ}
-use Rattle.std.specs.Prelude.{◌&&◌, ◌||◌, not}
+use Rattle.std.specs.Prelude.{◌||◌, not}
 use Rattle.arimaa_board.proofs.Lemmas.MaskLaws.{and_mask, or_mask, not_mask}
 use Rattle.arimaa_board.specs.Board.{at, holds_color}
-use Rattle.arimaa_board.specs.Masks.{is_beside}
 use Rattle.arimaa_board.specs.Piece.{other_color}
 use Rattle.arimaa_search.specs.AtEase.{is_beside_color}
 use Rattle.arimaa_search.proofs.at_ease.at_ease.Goals as goal

@@ -1,4 +1,4 @@
-use Rattle.std.proofs.Common.{◌≡◌, ◌<◌, ◌==◌, Bool, true, false, List, [], ◌∷◌, length, sym, ◌∙◌, refl, arith, true≢false, eqb-true}
+use Rattle.std.proofs.Common.{◌≡◌, ◌<◌, ◌==◌, true, false, List, [], ◌∷◌, length, sym, ◌∙◌, refl, arith, true≢false, eqb-true}
 use Rattle.std.proofs.lemmas.Bool.{OnTrue_at}
 use Rattle.arimaa_board.specs.declared.position.Position.{Position}
 use Rattle.arimaa_model.specs.Results.{next}
