@@ -67,9 +67,6 @@ pub(crate) fn remember(
     ensures later { KeepsNoOlder pass.old pass.new }
     ensures grown { NoFewer (steps_of pass.old) (steps_of pass.new) }
 {
-    if let Looked::Found(line) = table.look(pass, place) {
-        let known = bounds_of_verdict(p, table.attacker(), depth, verdict);
-        let bounds = table.bounds_over(&line, &known);
-        let _ = table.put(pass, place, &line, &bounds);
-    }
+    let known = bounds_of_verdict(p, table.attacker(), depth, verdict);
+    let _ = table.add(pass, place, &known);
 }

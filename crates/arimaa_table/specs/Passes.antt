@@ -6,7 +6,7 @@ use Rattle.atomic_table.specs.Table.{State}
 use Rattle.atomic_table.specs.declared.shared.Seat.{Seat}
 use Rattle.arimaa_line.specs.declared.bounds.Bounds.{Bounds}
 use Rattle.arimaa_line.specs.declared.line.Line.{Line}
-use Rattle.arimaa_line.specs.Bounds.{AreTrueBounds}
+use Rattle.arimaa_line.specs.Bounds.{AreTrueBounds, KeepsBounds}
 use Rattle.arimaa_line.specs.Lines.{IsTrueLine, IsLineOf, LosesNoBound}
 use Rattle.arimaa_line.specs.Lines.{empty_line, line_of_bounds, stamp_of}
 use Rattle.arimaa_table.specs.declared.view.PlaceView.{PlaceView}
@@ -17,6 +17,8 @@ use Rattle.arimaa_table.specs.declared.table.TablePass.{TablePass}
 use Rattle.arimaa_table.specs.declared.answers.Looked.{Looked}
 use Rattle.arimaa_table.specs.declared.answers.Looked.TheVariants.{Found}
 use Rattle.arimaa_table.specs.declared.answers.Looked.TheVariants as looked
+use Rattle.arimaa_table.specs.declared.answers.Added.{Added}
+use Rattle.arimaa_table.specs.declared.answers.Added.TheVariants as added
 use Rattle.arimaa_table.specs.declared.answers.Put.{Put}
 use Rattle.arimaa_table.specs.declared.answers.Put.TheVariants.{Stored, Lost, Busy, Worn}
 use Rattle.arimaa_table.specs.Between.{WasBusy}
@@ -98,6 +100,34 @@ PutAt t old new i seen known (Busy c) =
     (stamp_of seen + 1 < 2 ^ 64) × WasBusy (place_view old i) (place_view new i) c
 PutAt t old new i seen known Worn =
     (stamp_of seen ≡ 2 ^ 64 - 1) × (place_view new i ≡ place_view old i)
+
+-- in this call the pass took a line of a place, and left there these bounds and those of the line
+pub record AddedTo (t : Table) (old new : PlaceView) (known : Bounds) (s : ℕ) : Type 0 where
+  -- the line found
+  pub line : Line
+  -- what was put over it
+  pub bounds : Bounds
+  -- the stamp is the next one
+  pub stamp : s ≡ stamp_of line + 1
+  pub most : s < 2 ^ 64
+  -- the bounds name the position of those that were given
+  pub position : bounds.position ≡ known.position
+  -- each of those stands, no looser
+  pub keeps_known : KeepsBounds known bounds
+  -- so does each bound of the line, where it names the position
+  pub keeps_line : LosesNoBound line bounds
+  -- they are right
+  pub right : IsTrueOf t bounds
+  -- the line was taken, and they were left in its place
+  pub took : TookLine t old new line (line_of_bounds bounds s)
+
+-- what an adding at the place i answers
+abbrev pub AddedAt : Table → TablePass → TablePass → ℕ → Bounds → Added → Type 0
+AddedAt t old new i known (added.Stored s) =
+    AddedTo t (place_view old i) (place_view new i) known s
+AddedAt t old new i known (added.Busy c) = WasBusy (place_view old i) (place_view new i) c
+AddedAt t old new i known added.Worn =
+    (l : Line) × (stamp_of l ≡ 2 ^ 64 - 1) × TookLine t (place_view old i) (place_view new i) l l
 
 -- at one moment of the call the rule held, and this pass knew what it knows now
 abbrev pub IsRuled : Table → TablePass → Type 0

@@ -14,6 +14,6 @@ mod steps;
 mod table;
 mod view;
 
-pub use answers::{Looked, Put};
+pub use answers::{Added, Looked, Put};
 pub use table::{Table, TablePass};
 pub use view::{Kind, PassView, PlaceView, Setting, Turns};
