@@ -4,7 +4,9 @@
 # ../shared/yardstick beside the repository, its speed on the same questions is measured in the same run.
 # On one worker both programs say themselves how long the asking took, the making of their memory included:
 # the yardstick is started by a script, whose own time would count for as much as a short question.
-# Lines `ratio NAME VALUE` give the project's questions a second over the yardstick's on one worker,
+# Lines `ratio prove_NAME VALUE` give the project's questions a second over the yardstick's on one worker,
+# `ratio asking_NAME VALUE` the same beside the making of the project's memory, which is the time of the question
+# at depth 0. The yardstick's memory is handed out as it asks, so its time is taken whole.
 # `ratio efficiency_N_NAME VALUE` the seconds of one worker over N times those of N workers, and
 # `ratio work_N_NAME VALUE` the processor time of one worker over that of N workers together: below 1 where
 # they do work twice or hinder each other. Each figure is the least of interleaved runs. Run it on a machine
@@ -33,6 +35,7 @@ question() {
   echo "start $mark $board" >"$record"
   for _ in $(seq "$rounds"); do
     "$bench" count "$mover" "$attacker" "$depth" 1 "$lines" "$board" | awk '/^questions/ { print "one", $4 / 1e9, 0, $2 }'
+    "$bench" count "$mover" "$attacker" 0 1 "$lines" "$board" | awk '/^questions/ { print "memory", $4 / 1e9, 0, $2 }'
     if [ -x "$yardstick" ]; then
       "$yardstick" prove "$attacker" "$depth" 1 "$lines" <"$record" | awk '/opened/ { print "yardstick", $4 / $7, 0, $4 }'
     fi
@@ -48,12 +51,14 @@ question() {
     function max(a, b) { return a > b ? a : b }
     END {
       one = least["one"]
-      printf "%s: %d questions, %.4f seconds on one worker, %.0f questions a second\n", name, opened, one, opened / one
+      memory = least["memory"]
+      printf "%s: %d questions, %.4f seconds on one worker, %.4f of them for its memory, %.0f questions a second\n", name, opened, one, memory, opened / one
       printf "  seconds with 1, 2 and 4 workers: %.3f, %.3f, %.3f\n", least["workers1"], least["workers2"], least["workers4"]
       if ("yardstick" in least) {
         other = least["yardstick"]
         printf "  yardstick: %d questions, %.4f seconds, %.0f a second\n", theirs, other, theirs / other
         printf "ratio prove_%s %.3f\n", name, (opened / one) / (theirs / other)
+        printf "ratio asking_%s %.3f\n", name, (opened / max(one - memory, 1e-6)) / (theirs / other)
       }
       printf "ratio efficiency_2_%s %.3f\n", name, least["workers1"] / max(2 * least["workers2"], 0.001)
       printf "ratio efficiency_4_%s %.3f\n", name, least["workers1"] / max(4 * least["workers4"], 0.001)
